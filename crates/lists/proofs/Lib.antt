@@ -1,0 +1,4 @@
+pub mod Cases
+pub mod SortLaws
+pub mod RowOrder
+pub mod Sums
