@@ -12,7 +12,6 @@ use Rattle.answers.specs.declared.Updated.{Updated}
 use Rattle.answers.specs.declared.Updated.the-variants as U
 
 infixr 5 _then_
-
 -- ---- number and values, for each answer that is an enum. 0 and none where nothing is refused; the number says how many of the values it carries.
 
 abbrev pub refusalValues : Refusal → List ℕ

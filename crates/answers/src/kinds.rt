@@ -9,70 +9,262 @@ pub struct Kind {
 }
 
 const KINDS: [Kind; 64] = [
-    Kind { family: 0, values: 0 },
-    Kind { family: 1, values: 0 },
-    Kind { family: 1, values: 0 },
-    Kind { family: 2, values: 2 },
-    Kind { family: 2, values: 2 },
-    Kind { family: 2, values: 2 },
-    Kind { family: 2, values: 1 },
-    Kind { family: 2, values: 1 },
-    Kind { family: 2, values: 1 },
-    Kind { family: 2, values: 1 },
-    Kind { family: 2, values: 2 },
-    Kind { family: 2, values: 2 },
-    Kind { family: 2, values: 3 },
-    Kind { family: 2, values: 2 },
-    Kind { family: 2, values: 3 },
-    Kind { family: 2, values: 2 },
-    Kind { family: 2, values: 1 },
-    Kind { family: 2, values: 1 },
-    Kind { family: 2, values: 4 },
-    Kind { family: 2, values: 1 },
-    Kind { family: 2, values: 2 },
-    Kind { family: 2, values: 2 },
-    Kind { family: 2, values: 2 },
-    Kind { family: 2, values: 1 },
-    Kind { family: 2, values: 2 },
-    Kind { family: 2, values: 2 },
-    Kind { family: 2, values: 4 },
-    Kind { family: 2, values: 2 },
-    Kind { family: 2, values: 2 },
-    Kind { family: 2, values: 0 },
-    Kind { family: 2, values: 1 },
-    Kind { family: 2, values: 1 },
-    Kind { family: 2, values: 1 },
-    Kind { family: 2, values: 0 },
-    Kind { family: 2, values: 3 },
-    Kind { family: 2, values: 2 },
-    Kind { family: 2, values: 2 },
-    Kind { family: 0, values: 0 },
-    Kind { family: 0, values: 0 },
-    Kind { family: 0, values: 0 },
-    Kind { family: 3, values: 2 },
-    Kind { family: 3, values: 2 },
-    Kind { family: 3, values: 1 },
-    Kind { family: 0, values: 0 },
-    Kind { family: 0, values: 0 },
-    Kind { family: 0, values: 0 },
-    Kind { family: 0, values: 0 },
-    Kind { family: 0, values: 0 },
-    Kind { family: 0, values: 0 },
-    Kind { family: 0, values: 0 },
-    Kind { family: 4, values: 1 },
-    Kind { family: 4, values: 1 },
-    Kind { family: 0, values: 0 },
-    Kind { family: 0, values: 0 },
-    Kind { family: 0, values: 0 },
-    Kind { family: 0, values: 0 },
-    Kind { family: 0, values: 0 },
-    Kind { family: 0, values: 0 },
-    Kind { family: 0, values: 0 },
-    Kind { family: 0, values: 0 },
-    Kind { family: 5, values: 2 },
-    Kind { family: 5, values: 1 },
-    Kind { family: 5, values: 1 },
-    Kind { family: 5, values: 1 },
+    Kind {
+        family: 0,
+        values: 0,
+    },
+    Kind {
+        family: 1,
+        values: 0,
+    },
+    Kind {
+        family: 1,
+        values: 0,
+    },
+    Kind {
+        family: 2,
+        values: 2,
+    },
+    Kind {
+        family: 2,
+        values: 2,
+    },
+    Kind {
+        family: 2,
+        values: 2,
+    },
+    Kind {
+        family: 2,
+        values: 1,
+    },
+    Kind {
+        family: 2,
+        values: 1,
+    },
+    Kind {
+        family: 2,
+        values: 1,
+    },
+    Kind {
+        family: 2,
+        values: 1,
+    },
+    Kind {
+        family: 2,
+        values: 2,
+    },
+    Kind {
+        family: 2,
+        values: 2,
+    },
+    Kind {
+        family: 2,
+        values: 3,
+    },
+    Kind {
+        family: 2,
+        values: 2,
+    },
+    Kind {
+        family: 2,
+        values: 3,
+    },
+    Kind {
+        family: 2,
+        values: 2,
+    },
+    Kind {
+        family: 2,
+        values: 1,
+    },
+    Kind {
+        family: 2,
+        values: 1,
+    },
+    Kind {
+        family: 2,
+        values: 4,
+    },
+    Kind {
+        family: 2,
+        values: 1,
+    },
+    Kind {
+        family: 2,
+        values: 2,
+    },
+    Kind {
+        family: 2,
+        values: 2,
+    },
+    Kind {
+        family: 2,
+        values: 2,
+    },
+    Kind {
+        family: 2,
+        values: 1,
+    },
+    Kind {
+        family: 2,
+        values: 2,
+    },
+    Kind {
+        family: 2,
+        values: 2,
+    },
+    Kind {
+        family: 2,
+        values: 4,
+    },
+    Kind {
+        family: 2,
+        values: 2,
+    },
+    Kind {
+        family: 2,
+        values: 2,
+    },
+    Kind {
+        family: 2,
+        values: 0,
+    },
+    Kind {
+        family: 2,
+        values: 1,
+    },
+    Kind {
+        family: 2,
+        values: 1,
+    },
+    Kind {
+        family: 2,
+        values: 1,
+    },
+    Kind {
+        family: 2,
+        values: 0,
+    },
+    Kind {
+        family: 2,
+        values: 3,
+    },
+    Kind {
+        family: 2,
+        values: 2,
+    },
+    Kind {
+        family: 2,
+        values: 2,
+    },
+    Kind {
+        family: 0,
+        values: 0,
+    },
+    Kind {
+        family: 0,
+        values: 0,
+    },
+    Kind {
+        family: 0,
+        values: 0,
+    },
+    Kind {
+        family: 3,
+        values: 2,
+    },
+    Kind {
+        family: 3,
+        values: 2,
+    },
+    Kind {
+        family: 3,
+        values: 1,
+    },
+    Kind {
+        family: 0,
+        values: 0,
+    },
+    Kind {
+        family: 0,
+        values: 0,
+    },
+    Kind {
+        family: 0,
+        values: 0,
+    },
+    Kind {
+        family: 0,
+        values: 0,
+    },
+    Kind {
+        family: 0,
+        values: 0,
+    },
+    Kind {
+        family: 0,
+        values: 0,
+    },
+    Kind {
+        family: 0,
+        values: 0,
+    },
+    Kind {
+        family: 4,
+        values: 1,
+    },
+    Kind {
+        family: 4,
+        values: 1,
+    },
+    Kind {
+        family: 0,
+        values: 0,
+    },
+    Kind {
+        family: 0,
+        values: 0,
+    },
+    Kind {
+        family: 0,
+        values: 0,
+    },
+    Kind {
+        family: 0,
+        values: 0,
+    },
+    Kind {
+        family: 0,
+        values: 0,
+    },
+    Kind {
+        family: 0,
+        values: 0,
+    },
+    Kind {
+        family: 0,
+        values: 0,
+    },
+    Kind {
+        family: 0,
+        values: 0,
+    },
+    Kind {
+        family: 5,
+        values: 2,
+    },
+    Kind {
+        family: 5,
+        values: 1,
+    },
+    Kind {
+        family: 5,
+        values: 1,
+    },
+    Kind {
+        family: 5,
+        values: 1,
+    },
 ];
 
 // What the table says of a number; nothing of one that is not in it.

@@ -22,7 +22,6 @@ ascending [] = true
 ascending (x ∷ []) = true
 ascending (x ∷ y ∷ l) = ltb x y && ascending (y ∷ l)
 
-
 -- the place of the first x in l, of which the first element has the place k
 abbrev pub whereFrom : ℕ → List ℕ → ℕ → Found
 whereFrom k [] x = Nothing

@@ -1,0 +1,67 @@
+-- The layout judge over lent tables: answer, and every lent word at exit, from all inputs at entry.
+-- "Refusals change no lent word, .. and the work area is all zero after any call that got past 2." "In every call and area but work,
+-- words past the new contents stay."
+-- Assumes nothing.
+use Prim.Native.Nat.{ℕ, _/_}
+use mathlib.Core.Bool.{Bool, true, false, cond}
+use mathlib.Core.List.{List}
+use lib.ListN.{length, replicate}
+use lib.Dec.{ltb}
+use Rattle.lists.specs.Lists.{front}
+use Rattle.answers.specs.declared.Judged.{Judged}
+use Rattle.answers.specs.declared.Judged.the-variants.{Accepted, Refused}
+use Rattle.answers.specs.Answer.{when, _then_, refuse0, numberOf}
+use Rattle.types.specs.declared.limits.DagLimits.{DagLimits}
+use Rattle.rules.specs.Model.{Segment, Placement}
+use Rattle.rules.specs.Tables.{rowWidth, placeWidth, segments, placements, heldRows, heldEdges}
+use Rattle.rules.specs.Shape.{badLayout}
+use Rattle.rules.specs.Room.{noRoomToJudge}
+use Rattle.rules.specs.Order.{orderOf, orderWords}
+use Rattle.rules.specs.Layout.{layoutRule}
+
+-- the input tables of a layout
+pub record Tables : Type 0 where
+  pub rows : List ℕ
+  pub edges : List ℕ
+  pub places : List ℕ
+
+abbrev pub segmentsIn : Tables → List Segment
+segmentsIn t = segments (t .rows) (t .edges) (length (t .rows) / rowWidth)
+
+abbrev pub placementsIn : Tables → List Placement
+placementsIn t = placements (t .places) (length (t .places) / placeWidth)
+
+-- the areas that an accepted layout fills
+pub record Areas : Type 0 where
+  pub held : List ℕ
+  pub links : List ℕ
+  pub order : List ℕ
+
+-- 1, 2, 3 to 35; `work` is the length of the work area
+unfoldable pub judgement : ℕ → ℕ → DagLimits → Tables → ℕ → Areas → Judged
+judgement epoch size limits t work a =
+    when (badLayout (t .rows) (t .edges) (t .places)) (refuse0 1) then
+    when (noRoomToJudge work (length (a .held)) (length (a .links)) (length (a .order)) (length (t .rows) / rowWidth) (length (t .places) / placeWidth) (length (t .edges))) (refuse0 2) then
+    layoutRule epoch size limits (segmentsIn t) (placementsIn t)
+
+-- what is held once the layout is accepted
+unfoldable pub filled : DagLimits → Tables → Areas → Areas
+filled limits t a =
+    record {
+      held = front (heldRows (segmentsIn t) (placementsIn t)) (a .held);
+      links = front (heldEdges (segmentsIn t) (placementsIn t)) (a .links);
+      order = front (orderWords (orderOf (limits .depth) (segmentsIn t))) (a .order);
+    }
+
+-- a refusal leaves the areas as they were
+abbrev pub areasAfter : Judged → Areas → Areas → Areas
+areasAfter Accepted new old = new
+areasAfter (Refused r) new old = old
+
+-- 1 and 2 leave the work area as it was; past them it is all zero
+abbrev pub workLeft : ℕ → List ℕ → List ℕ
+workLeft number work = cond (ltb 2 number) (replicate (length work) 0) work
+
+abbrev pub workAfter : Judged → List ℕ → List ℕ
+workAfter Accepted work = replicate (length work) 0
+workAfter (Refused r) work = workLeft (r .number) work

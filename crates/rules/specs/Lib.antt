@@ -1,0 +1,17 @@
+pub mod Model
+pub mod Tables
+pub mod Shape
+pub mod Room
+pub mod Rows
+pub mod Descriptor
+pub mod Edges
+pub mod Order
+pub mod Tiling
+pub mod Layout
+pub mod Judge
+pub mod Ancestors
+pub mod Ordering
+pub mod Reading
+pub mod Assignment
+pub mod Delta
+pub mod Update
