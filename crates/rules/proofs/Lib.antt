@@ -1,3 +1,4 @@
 pub mod Ticks
 pub mod Tiled
 pub mod Covered
+pub mod TilingCases
