@@ -10,7 +10,7 @@ use native.Mathlib.Decide.{ℕ-discrete}
 use native.Mathlib.Omega.{arith}
 use borrow.Author.Tests.{eq-eqb, eqb-true, eqb-false, ltb-true, ltb-false}
 use lib.Dec.{eqb, ltb}
-use lib.ListN.{length}
+use lib.ListN.{length, getD, take}
 use Rattle.lists.specs.Lists.{has, _∈_, _∉_}
 use Rattle.lists.specs.Sets.{Ascending, add, addAll, keep, total}
 use Rattle.lists.proofs.SortLaws.{true-or-false}
@@ -331,3 +331,54 @@ same-ids (x ∷ a) (y ∷ b) p q s r =
     right : x ≡ y → (z : ℕ) → z ∈ b → (z ≡ x) ⊎ (z ∈ a) → z ∈ a
     right e z h (inl k) = absurd (omega (arith, q .0 z h))
     right e z h (inr k) = k
+
+-- ---- total
+
+pub total-same : (v w : ℕ → ℕ) (l : List ℕ) → ((x : ℕ) → x ∈ l → v x ≡ w x) → total v l ≡ total w l
+unfolding total
+total-same v w [] s = refl
+total-same v w (x ∷ l) s = omega (arith, s x (here x l), total-same v w l (λ z h. s z (there z x l h)))
+
+pub total-none : (l : List ℕ) → total (λ x. 0) l ≡ 0
+unfolding total
+total-none [] = refl
+total-none (x ∷ l) = omega (arith, total-none l)
+
+-- one id's weight is raised by k at most: over an ascending list so is the sum
+pub total-raised : (v w : ℕ → ℕ) (i k : ℕ) → ((x : ℕ) → (x ≡ i → ⊥) → v x ≡ w x) → v i ≤ k + w i → (l : List ℕ) → Ascending l → total v l ≤ k + total w l
+unfolding total
+total-raised v w i k s h [] a = zero-le
+total-raised v w i k s h (x ∷ l) a = go (total-raised v w i k s h l (a .1)) (eqb x i) refl
+  where
+    apart : (z : ℕ) → x < z → x ≡ i → z ≡ i → ⊥
+    apart z q e f = omega arith
+
+    go : total v l ≤ k + total w l → (t : Bool) → eqb x i ≡ t → v x + total v l ≤ k + (w x + total w l)
+    go ih true e =
+        let q : x ≡ i = eqb-true x i e in
+        let r : v x ≤ k + w x = rw q h in
+        omega (arith, total-same v w l (λ z m. s z (apart z (a .0 z m) q)))
+    go ih false e = omega (arith, s x (eqb-false x i e))
+
+-- ---- places in a list
+
+-- x stands at a place before j
+abbrev pub Place : ℕ → ℕ → List ℕ → Type 0
+Place x j l = (k : ℕ) × (k < j) × (k < length l) × (getD l k 0 ≡ x)
+
+pub take-place : (x j : ℕ) (l : List ℕ) → x ∈ take j l → Place x j l
+take-place x zero l h = never h
+take-place x (suc j) [] h = never h
+take-place x (suc j) (y ∷ l) h = go (take-place x j l) (in-cons x y (take j l) h)
+  where
+    go : (x ∈ take j l → Place x j l) → (x ≡ y) ⊎ (x ∈ take j l) → Place x (suc j) (y ∷ l)
+    go ih (inl e) = (zero, omega arith, omega arith, sym e)
+    go ih (inr k) = let r = ih k in (suc (r .0), omega (arith, r .1), omega (arith, r .2), r .3)
+
+pub has-place : (x : ℕ) (l : List ℕ) → x ∈ l → Place x (length l) l
+has-place x [] h = never h
+has-place x (y ∷ l) h = go (has-place x l) (in-cons x y l h)
+  where
+    go : (x ∈ l → Place x (length l) l) → (x ≡ y) ⊎ (x ∈ l) → Place x (suc (length l)) (y ∷ l)
+    go ih (inl e) = (zero, omega arith, omega arith, sym e)
+    go ih (inr k) = let r = ih k in (suc (r .0), omega (arith, r .1), omega (arith, r .2), r .3)
