@@ -2,3 +2,4 @@ pub mod Ticks
 pub mod Tiled
 pub mod Covered
 pub mod TilingCases
+pub mod Ancestry
