@@ -3,3 +3,4 @@ pub mod Tiled
 pub mod Covered
 pub mod TilingCases
 pub mod Ancestry
+pub mod Counting
