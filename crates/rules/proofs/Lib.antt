@@ -4,3 +4,4 @@ pub mod Covered
 pub mod TilingCases
 pub mod Ancestry
 pub mod Counting
+pub mod Answers
