@@ -5,3 +5,4 @@ pub mod TilingCases
 pub mod Ancestry
 pub mod Counting
 pub mod Answers
+pub mod NoDeadEnd
