@@ -11,6 +11,7 @@ use native.Mathlib.Omega.{arith}
 use borrow.Author.Tests.{eq-eqb, eqb-true, eqb-false, ltb-true, ltb-false}
 use lib.Dec.{eqb, ltb}
 use lib.ListN.{length, getD, take}
+use lib.Seq.{take-length}
 use Rattle.lists.specs.Lists.{has, _∈_, _∉_}
 use Rattle.lists.specs.Sets.{Ascending, add, addAll, keep, total}
 use Rattle.lists.proofs.SortLaws.{true-or-false}
@@ -376,9 +377,4 @@ take-place x (suc j) (y ∷ l) h = go (take-place x j l) (in-cons x y (take j l)
     go ih (inr k) = let r = ih k in (suc (r .0), omega (arith, r .1), omega (arith, r .2), r .3)
 
 pub has-place : (x : ℕ) (l : List ℕ) → x ∈ l → Place x (length l) l
-has-place x [] h = never h
-has-place x (y ∷ l) h = go (has-place x l) (in-cons x y l h)
-  where
-    go : (x ∈ l → Place x (length l) l) → (x ≡ y) ⊎ (x ∈ l) → Place x (suc (length l)) (y ∷ l)
-    go ih (inl e) = (zero, omega arith, omega arith, sym e)
-    go ih (inr k) = let r = ih k in (suc (r .0), omega (arith, r .1), omega (arith, r .2), r .3)
+has-place x l h = take-place x (length l) l (rw (take-length l) h)
