@@ -6,3 +6,4 @@ pub mod Ancestry
 pub mod Counting
 pub mod Answers
 pub mod NoDeadEnd
+pub mod OrderingCases
