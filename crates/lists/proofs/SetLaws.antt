@@ -4,7 +4,7 @@
 use mathlib.Core.Path.{_≡_, refl, sym, ap, _∙_}
 use mathlib.Core.Bool.{Bool, true, false, cond, not, _&&_, _||_}
 use mathlib.Core.Logic.{_⊎_, inl, inr}
-use mathlib.Core.List.{List, [], _∷_, _++_}
+use mathlib.Core.List.{List, [], _∷_, _++_, map}
 use Prim.Native.Nat.{ℕ, zero, suc, _+_, _<_, _≤_, zero-le}
 use native.Mathlib.Decide.{ℕ-discrete}
 use native.Mathlib.Omega.{arith}
@@ -13,6 +13,7 @@ use lib.Dec.{eqb, ltb}
 use lib.ListN.{length, getD, take}
 use lib.Seq.{take-length}
 use Rattle.lists.specs.Lists.{has, _∈_, _∉_}
+use Rattle.lists.specs.Sort.{insert, sorted}
 use Rattle.lists.specs.Sets.{Ascending, add, addAll, keep, total}
 use Rattle.lists.proofs.SortLaws.{true-or-false}
 use Rattle.lists.proofs.RowOrder as RowOrder
@@ -80,6 +81,21 @@ in-left z a b h = has-append z a b ∙ or-left _ _ h
 
 pub in-right : (z : ℕ) (a b : List ℕ) → z ∈ b → z ∈ (a ++ b)
 in-right z a b h = has-append z a b ∙ or-right (has z a) _ h
+
+-- what is sorted has the same keys
+module _ {A : Type 0} (le : A → A → Bool) (key : A → ℕ) (z : ℕ) where
+  has-insert : (x : A) (l : List A) → has z (map key (insert le x l)) ≡ (eqb (key x) z || has z (map key l))
+  has-insert x [] = refl
+  has-insert x (y ∷ l) = go (has-insert x l) (le x y)
+    where
+      go : has z (map key (insert le x l)) ≡ (eqb (key x) z || has z (map key l)) → (t : Bool)
+          → has z (map key (cond t (x ∷ y ∷ l) (y ∷ insert le x l))) ≡ (eqb (key x) z || (eqb (key y) z || has z (map key l)))
+      go ih true = refl
+      go ih false = ap (λ (t : Bool). eqb (key y) z || t) ih ∙ or-swap (eqb (key y) z) (eqb (key x) z) (has z (map key l))
+
+  pub has-sorted : (l : List A) → has z (map key (sorted le l)) ≡ has z (map key l)
+  has-sorted [] = refl
+  has-sorted (x ∷ l) = has-insert x (sorted le l) ∙ ap (λ (t : Bool). eqb (key x) z || t) (has-sorted l)
 
 -- ---- add
 
