@@ -7,3 +7,4 @@ pub mod Counting
 pub mod Answers
 pub mod NoDeadEnd
 pub mod OrderingCases
+pub mod Ascended
