@@ -1,0 +1,16 @@
+-- A match on what is known of a value by another name: the contract or the parameter says which value is asked about, the arm which it is.
+-- Assumes nothing.
+use Prim.Native.Nat.{ℕ, _≤_}
+use mathlib.Core.Path.{_≡_}
+use mathlib.Core.Option.{Option}
+use borrow.Author.Tests.{le-ltb}
+use Rattle.answers.specs.declared.Judged.{Judged}
+use Rattle.types.specs.declared.state.SegmentState.{SegmentState}
+use Rattle.rules.specs.Rows.{lifecycleRule, stateLifecycle}
+
+-- created in time, so that the state decides
+pub lifecycle-told : (layout id : ℕ) (asked told : SegmentState) (created : ℕ) (sealed : Option ℕ) (children : ℕ) (r : Judged)
+    → created ≤ layout → asked ≡ told → r ≡ stateLifecycle layout id told created sealed children
+    → r ≡ lifecycleRule layout id asked created sealed children
+unfolding lifecycleRule
+lifecycle-told layout id asked told created sealed children r h e v = rw (v, e, le-ltb _ _ h)
