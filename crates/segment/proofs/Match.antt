@@ -1,4 +1,4 @@
--- A match on what is known of a value by another name: the contract or the parameter says which value is asked about, the arm which it is.
+-- A match: the contract asks for the rule at one value, and the arm that was taken says which value that is.
 -- Assumes nothing.
 use Prim.Native.Nat.{ℕ, _≤_}
 use mathlib.Core.Path.{_≡_}
@@ -6,16 +6,15 @@ use mathlib.Core.Option.{Option}
 use borrow.Author.Tests.{le-ltb}
 use Rattle.answers.specs.declared.Judged.{Judged}
 use Rattle.types.specs.declared.state.SegmentState.{SegmentState}
-use Rattle.types.specs.declared.state.StateRead.{StateRead}
-use Rattle.types.specs.declared.range.Made.{Made}
-use Rattle.rules.specs.Rows.{rangeRule, stateRule, lifecycleRule, stateLifecycle}
+use Rattle.rules.specs.Rows.{lifecycleRule, stateLifecycle}
 
-module _ (id : ℕ) (r : Judged) where
-  pub range-told : (m asked told : Made) → m ≡ asked → m ≡ told → r ≡ rangeRule id told → r ≡ rangeRule id asked
-  range-told m asked told e k v = rw (v, ← e, k)
+-- a match on a parameter
+pub told : {A B : Type 0} (f : A → B) (asked arm : A) (r : B) → asked ≡ arm → r ≡ f arm → r ≡ f asked
+told f asked arm r e v = rw (v, e)
 
-  pub state-told : (m asked told : StateRead) → m ≡ asked → m ≡ told → r ≡ stateRule id told → r ≡ stateRule id asked
-  state-told m asked told e k v = rw (v, ← e, k)
+-- a match on what a callee answered, in a rule that names the segment
+pub answered : {A B : Type 0} (f : ℕ → A → B) (id : ℕ) (x asked arm : A) (r : B) → x ≡ asked → x ≡ arm → r ≡ f id arm → r ≡ f id asked
+answered f id x asked arm r e k v = rw (v, ← e, k)
 
 -- created in time, so that the state decides
 pub lifecycle-told : (layout id : ℕ) (asked told : SegmentState) (created : ℕ) (sealed : Option ℕ) (children : ℕ) (r : Judged)

@@ -1,7 +1,7 @@
 -- `segment::descriptor::judge_range` meets its contract: `KeyRange::new` says which case, and each arm answers that case.
 -- Assumes nothing.
 use Rattle.rules.specs.Rows.{rangeRule}
-use Rattle.segment.proofs.Match.{range-told}
+use Rattle.segment.proofs.Match.{answered}
 use borrow.Author.Needs.{needs}
 use Rattle.segment.proofs.descriptor.judge_range.Statement.{statement}
 use Rattle.segment.proofs.descriptor.judge_range.Tie as tie
@@ -32,19 +32,19 @@ enum-told c = search needs
 
 returns : tie.Need-returns
 unfolding rangeRule
-returns c = search range-told
+returns c = search (answered rangeRule)
 
 returns-2 : tie.Need-returns-2
 unfolding rangeRule
-returns-2 c = search range-told
+returns-2 c = search (answered rangeRule)
 
 returns-3 : tie.Need-returns-3
 unfolding rangeRule
-returns-3 c = search range-told
+returns-3 c = search (answered rangeRule)
 
 returns-4 : tie.Need-returns-4
 unfolding rangeRule
-returns-4 c = search range-told
+returns-4 c = search (answered rangeRule)
 
 pub judge-range-spec : {M : Type 1} → statement M
 judge-range-spec =

@@ -1,7 +1,7 @@
 -- `segment::descriptor::judge_state` meets its contract: `SegmentState::from_word` says which case, and each arm answers that case.
 -- Assumes nothing.
 use Rattle.rules.specs.Rows.{stateRule}
-use Rattle.segment.proofs.Match.{state-told}
+use Rattle.segment.proofs.Match.{answered}
 use borrow.Author.Needs.{needs}
 use Rattle.segment.proofs.descriptor.judge_state.Statement.{statement}
 use Rattle.segment.proofs.descriptor.judge_state.Tie as tie
@@ -20,11 +20,11 @@ refuse-requires c κs = search needs
 
 returns : tie.Need-returns
 unfolding stateRule
-returns c = search state-told
+returns c = search (answered stateRule)
 
 returns-2 : tie.Need-returns-2
 unfolding stateRule
-returns-2 c = search state-told
+returns-2 c = search (answered stateRule)
 
 pub judge-state-spec : {M : Type 1} → statement M
 judge-state-spec =
