@@ -106,25 +106,52 @@ fn ranges() {
     made(b"range 65536..65535", KeyRange::new(65536, 65535));
     made(b"range 0..65536", KeyRange::new(0, 65536));
     made(b"range 5..4", KeyRange::new(5, 4));
-    let low = KeyRange { start: 0, end: 32767 };
+    let low = KeyRange {
+        start: 0,
+        end: 32767,
+    };
     let high = KeyRange {
         start: 32768,
         end: 65535,
     };
-    truth(b"0..32767 is next to 32768..65535:", low.is_adjacent_to(high));
-    truth(b"32768..65535 is next to 0..32767:", high.is_adjacent_to(low));
-    truth(b"32768..65535 is next to itself:", high.is_adjacent_to(high));
+    truth(
+        b"0..32767 is next to 32768..65535:",
+        low.is_adjacent_to(high),
+    );
+    truth(
+        b"32768..65535 is next to 0..32767:",
+        high.is_adjacent_to(low),
+    );
+    truth(
+        b"32768..65535 is next to itself:",
+        high.is_adjacent_to(high),
+    );
     truth(b"0..65535 holds 65535:", KeyRange::FULL.contains(65535));
-    truth(b"0..65535 holds all of 0..32767:", KeyRange::FULL.contains_range(low));
+    truth(
+        b"0..65535 holds all of 0..32767:",
+        KeyRange::FULL.contains_range(low),
+    );
 }
 
 fn lists() {
     let repeated = [7, 8, 7u64];
     let own = [7, 5, 7u64];
-    judged(b"parents 7,8,7 of 5:", segment::list::judge_list(SegmentId(5), 20, &repeated));
-    judged(b"parents 7,5,7 of 5:", segment::list::judge_list(SegmentId(5), 20, &own));
-    judged(b"children 7,8 of 5:", segment::list::judge_list(SegmentId(5), 21, &repeated[0..2]));
-    judged(b"children 8,7 of 5, mid-table:", segment::list::judge_list(SegmentId(5), 21, &repeated[1..3]));
+    judged(
+        b"parents 7,8,7 of 5:",
+        segment::list::judge_list(SegmentId(5), 20, &repeated),
+    );
+    judged(
+        b"parents 7,5,7 of 5:",
+        segment::list::judge_list(SegmentId(5), 20, &own),
+    );
+    judged(
+        b"children 7,8 of 5:",
+        segment::list::judge_list(SegmentId(5), 21, &repeated[0..2]),
+    );
+    judged(
+        b"children 8,7 of 5, mid-table:",
+        segment::list::judge_list(SegmentId(5), 21, &repeated[1..3]),
+    );
 }
 
 fn lifecycles() {
@@ -177,13 +204,34 @@ fn placed_at(id: u64) -> Placed {
 fn descriptors() {
     let empty = Optional { flag: 1, word: 0 };
     let odd = Optional { flag: 2, word: 0 };
-    described(b"a placement with an unread TLS word:", segment::descriptor::describe(info(0, 65535, 1, ABSENT), placed_at(1)));
-    described(b"another segment's placement:", segment::descriptor::describe(info(0, 65535, 1, ABSENT), placed_at(2)));
-    described(b"empty legacy and bad range:", segment::descriptor::describe(info(65536, 0, 1, empty), Placed::Nowhere));
-    described(b"a range past the last hash:", segment::descriptor::describe(info(0, 65536, 1, ABSENT), Placed::Nowhere));
-    described(b"state 3:", segment::descriptor::describe(info(0, 65535, 3, ABSENT), Placed::Nowhere));
-    described(b"a flag of 2:", segment::descriptor::describe(info(0, 65535, 1, odd), Placed::Nowhere));
-    described(b"a hash of 33 bits:", segment::descriptor::describe(info(4294967296, 65535, 1, ABSENT), Placed::Nowhere));
+    described(
+        b"a placement with an unread TLS word:",
+        segment::descriptor::describe(info(0, 65535, 1, ABSENT), placed_at(1)),
+    );
+    described(
+        b"another segment's placement:",
+        segment::descriptor::describe(info(0, 65535, 1, ABSENT), placed_at(2)),
+    );
+    described(
+        b"empty legacy and bad range:",
+        segment::descriptor::describe(info(65536, 0, 1, empty), Placed::Nowhere),
+    );
+    described(
+        b"a range past the last hash:",
+        segment::descriptor::describe(info(0, 65536, 1, ABSENT), Placed::Nowhere),
+    );
+    described(
+        b"state 3:",
+        segment::descriptor::describe(info(0, 65535, 3, ABSENT), Placed::Nowhere),
+    );
+    described(
+        b"a flag of 2:",
+        segment::descriptor::describe(info(0, 65535, 1, odd), Placed::Nowhere),
+    );
+    described(
+        b"a hash of 33 bits:",
+        segment::descriptor::describe(info(4294967296, 65535, 1, ABSENT), Placed::Nowhere),
+    );
 }
 
 fn main() {

@@ -12,3 +12,4 @@ pub mod NoDeadEnd
 pub mod OrderingCases
 pub mod Ascended
 pub mod Taken
+pub mod Accepts

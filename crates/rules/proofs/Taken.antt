@@ -241,12 +241,13 @@ visit-on limit d (c ∷ cs) N N′ e =
     go (max (depthOf c N) (d + 1)) (λ m. visit-on limit d cs (touched c m N) N′) (ltb limit (max (depthOf c N) (d + 1))) e
   where
     join : (m : ℕ) → (nodeIds N′ ≡ nodeIds (touched c m N)) × Was (λ z. times z cs) (touched c m N) N′ → (nodeIds N′ ≡ nodeIds N) × Was (λ z. times z (c ∷ cs)) N N′
-    join m r =
-        (r .0 ∙ (ap nodeIds (touched-is c m N) ∙ ids-modify (touchedNode m) (λ x. refl) c N),
-         λ z x′ f.
-         let b = r .1 z x′ f in
-         let a = was-touched c m N z (b .0) (b .1) in
-         (a .0, a .1, touch-more (tick (eqb c z)) (times z cs) (a .0) (b .0) x′ (a .2) (b .2)))
+    join m r = (
+      r .0 ∙ (ap nodeIds (touched-is c m N) ∙ ids-modify (touchedNode m) (λ x. refl) c N),
+      λ z x′ f.
+          let b = r .1 z x′ f in
+          let a = was-touched c m N z (b .0) (b .1) in
+          (a .0, a .1, touch-more (tick (eqb c z)) (times z cs) (a .0) (b .0) x′ (a .2) (b .2)),
+    )
 
     go : (m : ℕ) → ((k : ℕ) → visit limit d cs (touched c k N) ≡ on N′ → (nodeIds N′ ≡ nodeIds (touched c k N)) × Was (λ z. times z cs) (touched c k N) N′)
         → (t : Bool) → cond t (deep m) (visit limit d cs (touched c m N)) ≡ on N′ → (nodeIds N′ ≡ nodeIds N) × Was (λ z. times z (c ∷ cs)) N N′
@@ -379,19 +380,20 @@ module _ (S : List Segment) (fit : Reciprocal S) (xs : List ℕ) (N : List Node)
       go : (i ≡ z) ⊎ (i ≡ z → ⊥) → (y : Node) × (find z N ≡ some y) × (y′ .children ≡ y .children) × (y′ .waits ≡ y .waits - times z (own .0 .children)) × (y′ .ready ≡ true → ((y .ready ≡ true) × (z ≡ i → ⊥)) ⊎ ((1 ≤ times z (own .0 .children)) × (y′ .waits ≡ 0)))
       go (inl s) =
           let g : find i (modify i unready N) ≡ some (b .0) = ap (find i) (sym (taken-is i N)) ∙ (ap (λ (k : ℕ). find k (taken i N)) s ∙ b .1) in
-          let m = mapped-some unready (find i N) (b .0) (sym (find-same unready (λ n. refl) i N) ∙ g) in
-          (m .0,
-           ap (λ (k : ℕ). find k N) (sym s) ∙ m .1,
-           b .2 .kids ∙ ap (λ (n : Node). n .children) (sym (m .2)),
-           omega (arith, b .2 .waits, ap (λ (n : Node). n .waits) (m .2), kids),
-           to (m .0) (ap (λ (n : Node). n .waits) (m .2)) (λ t. never (ap (λ (n : Node). n .ready) (m .2) ∙ t)))
+          let m = mapped-some unready (find i N) (b .0) (sym (find-same unready (λ n. refl) i N) ∙ g) in (
+            m .0,
+            ap (λ (k : ℕ). find k N) (sym s) ∙ m .1,
+            b .2 .kids ∙ ap (λ (n : Node). n .children) (sym (m .2)),
+            omega (arith, b .2 .waits, ap (λ (n : Node). n .waits) (m .2), kids),
+            to (m .0) (ap (λ (n : Node). n .waits) (m .2)) (λ t. never (ap (λ (n : Node). n .ready) (m .2) ∙ t)),
+          )
       go (inr n) =
           let g : find z N ≡ some (b .0) = sym (find-other unready (λ n. refl) i z n N) ∙ (ap (find z) (sym (taken-is i N)) ∙ b .1) in
           (b .0, g, b .2 .kids, omega (arith, b .2 .waits, kids), to (b .0) refl (λ t. (t, λ e. n (sym e))))
 
   -- where i is a parent of z, z was not taken, and is not i
   not-yet : (z : ℕ) (s : Segment) → lookup z S ≡ some s → i ∈ s .parents → (z ∈ (xs ++ (i ∷ []))) → ⊥
-  not-yet z s l h k = go (in-cons z i [] ) (true-or-false (has z xs))
+  not-yet z s l h k = go (in-cons z i []) (true-or-false (has z xs))
     where
       other : (z ∈ xs) → ⊥
       other q =
@@ -433,11 +435,12 @@ module _ (S : List Segment) (fit : Reciprocal S) (xs : List ℕ) (N : List Node)
           → (s : Segment) × (lookup z S ≡ some s) × (y′ .children ≡ s .children) × (y′ .waits + hits (s .parents) (xs ++ (i ∷ [])) ≡ length (s .parents))
       waits z y′ f =
           let w = was z y′ f in
-          let o = fine .node z (w .0) (w .1) in
-          (o .0,
-           o .1,
-           w .2 ∙ o .2,
-           omega (arith, w .3, o .3, more (o .0 .parents), hits-le (o .0 .parents) (xs ++ (i ∷ [])), fit .agree i z (own .0) (o .0) (own .1) (o .1)))
+          let o = fine .node z (w .0) (w .1) in (
+            o .0,
+            o .1,
+            w .2 ∙ o .2,
+            omega (arith, w .3, o .3, more (o .0 .parents), hits-le (o .0 .parents) (xs ++ (i ∷ [])), fit .agree i z (own .0) (o .0) (own .1) (o .1)),
+          )
 
       free-next : (z : ℕ) (y′ : Node) → find z N′ ≡ some y′ → y′ .ready ≡ true → (y′ .waits ≡ 0) × (z ∉ (xs ++ (i ∷ [])))
       free-next z y′ f r = go (w .4 r)
