@@ -3,3 +3,7 @@ pub mod Keys
 pub mod Lookup
 pub mod Once
 pub mod Fill
+pub mod TwinLaws
+pub mod Marked
+pub mod Flags
+pub mod Examples

@@ -3,3 +3,5 @@ pub mod SortLaws
 pub mod RowOrder
 pub mod Sums
 pub mod SortMap
+pub mod HasAt
+pub mod Tests
