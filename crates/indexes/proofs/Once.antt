@@ -47,3 +47,9 @@ rows-ascend index table n t size is = keyed-ascend table rowWidth n (segmentKeys
 pub places-ascend : (index places : List ℕ) (m : ℕ) → NoTwins places placeWidth m → length index ≡ 3 * m → rows index ≡ placementIndex places m → Ascends (ids index 3 m)
 unfolding placementIndex
 places-ascend index places m t size is = keyed-ascend places placeWidth m (placementKeys places m 0) (places-keyed places m) t index size is
+
+-- a table whose ids ascend, as a held table's do, has no twins
+pub ascends-once : (table : List ℕ) (width n : ℕ) → Ascends (ids table width n) → NoTwins table width n
+ascends-once table width n asc i j h k e =
+    let a : getD (ids table width n) i 0 < getD (ids table width n) j 0 = asc i j h (omega (arith, length-ids table width n)) in
+    omega (arith, ids-at table width n i (omega arith), ids-at table width n j k)

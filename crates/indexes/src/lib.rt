@@ -6,6 +6,8 @@ ghost use Rattle.sorts.specs.Rows.{rows};
 ghost use Rattle.rules.specs.Tables.{rowWidth, placeWidth, edgesFrom};
 ghost use Rattle.indexes.specs.Index.{segmentKeys, placementKeys, segmentIndex, placementIndex};
 
+pub mod twins;
+
 // The keys of the n segment rows, in input order. `total` is how many edge words the rows have.
 fn fill_rows(index: &mut [u64], table: &[u64], n: usize, total: usize)
     requires { ⌜ length (now index) ≡ 3 * n ⌝ }

@@ -4,3 +4,5 @@ pub mod RowOrder
 pub mod Sums
 pub mod SortMap
 pub mod SetLaws
+pub mod HasAt
+pub mod Tests

@@ -13,3 +13,4 @@ pub mod OrderingCases
 pub mod Ascended
 pub mod Taken
 pub mod Accepts
+pub mod TableIds

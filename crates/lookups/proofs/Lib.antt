@@ -1,0 +1,5 @@
+pub mod Dangling
+pub mod Between
+pub mod Linked
+pub mod Pushed
+pub mod Filled
