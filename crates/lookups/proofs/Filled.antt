@@ -14,7 +14,6 @@ use lib.Seq.{take-all, length-take-le}
 use Rattle.lists.specs.Sort.{Row, le3, sorted}
 use Rattle.sorts.specs.Rows.{rows}
 use Rattle.sorts.proofs.RowLaws.{rows-length}
-use Rattle.rules.specs.Model.{Segment}
 use Rattle.rules.specs.Tables.{headWidth, parentsAt, childrenAt, segmentAt, segmentsFrom, edgesFrom, startOf}
 use Rattle.rules.proofs.Places.{start-next, start-room, length-stretch}
 use Rattle.lookups.specs.Sides.{pairOf, pairsOf, side, sideAt, sidesFrom, pairIndex}
