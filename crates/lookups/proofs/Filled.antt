@@ -4,7 +4,7 @@
 --     pairs-size, index-is                how many pairs there are; sorted, they are the index
 -- By the rest of the table, one row less each turn. Assumes nothing.
 use Prim.Native.Nat.{ℕ, zero, suc, _+_, _-_, _*_, _≤_, _<_}
-use native.Mathlib.Nat.{sub-zero, add-mul, one-mul, mul-le-mul-right}
+use native.Mathlib.Nat.{sub-zero}
 use native.Mathlib.Omega.{arith}
 use mathlib.Core.Bool.{Bool, true, false}
 use mathlib.Core.Path.{_≡_, refl, sym, ap, _∙_}
@@ -12,16 +12,16 @@ use mathlib.Core.List.{List, _++_, map, append-assoc, append-nil}
 use lib.ListN.{length, getD, take, length-append, length-map}
 use lib.Seq.{take-all, length-take-le}
 use Rattle.lists.specs.Sort.{Row, le3, sorted}
+use Rattle.words.proofs.TableLaws.{field-in}
 use Rattle.sorts.specs.Rows.{rows}
 use Rattle.sorts.proofs.RowLaws.{rows-length}
-use Rattle.rules.specs.Model.{Segment}
 use Rattle.rules.specs.Tables.{headWidth, parentsAt, childrenAt, segmentAt, segmentsFrom, edgesFrom, startOf}
 use Rattle.rules.proofs.Places.{start-next, start-room, length-stretch}
 use Rattle.lookups.specs.Sides.{pairOf, pairsOf, side, sideAt, sidesFrom, pairIndex}
 
 -- the words of row i that all tables have
 pub row-in : (i n width len : ℕ) → i < n → headWidth ≤ width → n * width ≤ len → i * width + headWidth ≤ len
-row-in i n width len h p q = let z : (i + 1) * width ≤ n * width = mul-le-mul-right width (omega arith) in omega (arith, add-mul i 1 width, one-mul width)
+row-in i n width len h p q = omega (arith, field-in i n width 10 len h (omega arith) q)
 
 length-side : (b : Bool) (table edges : List ℕ) (w place : ℕ) → place + parentsAt table w + childrenAt table w ≤ length edges
     → length (side b (segmentAt table edges w place)) ≡ sideAt b table w

@@ -3,3 +3,5 @@ pub mod Between
 pub mod Linked
 pub mod Pushed
 pub mod Filled
+pub mod Counted
+pub mod Examples

@@ -1,6 +1,6 @@
 -- Pairs written one after the other: those of one list, and those of one row.
 --     push-start, push-next, push-end      the loop over a list: after j turns the pairs of its first j items stand behind row k
---     side-room, side-pushed               those of a row, of which the list is a side
+--     side-room, side-after, side-pushed   those of a row, of which the list is a side
 -- By the rows before a row that is written, which stay. Assumes nothing.
 use Prim.Native.Nat.{ℕ, suc, _+_, _*_, _≤_, _<_}
 use native.Mathlib.Nat.{add-zero}
@@ -51,6 +51,9 @@ module _ (b : Bool) (s : Segment) (list : List ℕ) (k : ℕ) (is : side b s ≡
   pub side-room : (size : ℕ) → 3 * (k + length (side b s)) ≤ size → 3 * (k + length list) ≤ size
   side-room size h = rw (← is) h
 
+  pub side-after : (r : ℕ) → r ≡ k + length list → r ≡ k + length (side b s)
+  side-after r e = rw is e
+
   pub side-pushed : (id r : ℕ) (x₀ x : List Row) → r ≡ k + length list → take (k + length list) x ≡ take k x₀ ++ map (pairOf id) list
-      → (r ≡ k + length (side b s)) × (take r x ≡ take k x₀ ++ map (pairOf id) (side b s))
-  side-pushed id r x₀ x e f = rw is (e, ap (λ (t : ℕ). take t x) e ∙ f)
+      → take r x ≡ take k x₀ ++ map (pairOf id) (side b s)
+  side-pushed id r x₀ x e f = rw is (ap (λ (t : ℕ). take t x) e ∙ f)

@@ -23,7 +23,15 @@ fn push_pairs(pairs: &mut [u64], k: usize, id: u64, list: &[u64]) -> usize
 }
 
 // The pairs of the row that begins at word w and whose edges begin at `at`, from row k of the pairs on; the row after them.
-fn push_row(pairs: &mut [u64], k: usize, parents: bool, table: &[u64], w: usize, edges: &[u64], at: usize) -> usize
+fn push_row(
+    pairs: &mut [u64],
+    k: usize,
+    parents: bool,
+    table: &[u64],
+    w: usize,
+    edges: &[u64],
+    at: usize,
+) -> usize
     requires { ⌜ w + headWidth ≤ length (now table) ⌝ }
     requires { ⌜ at + parentsAt (now table) w + childrenAt (now table) w ≤ length (now edges) ⌝ }
     requires { ⌜ 3 * (k + length (side parents (segmentAt (now table) (now edges) w at))) ≤ length (now pairs) ⌝ }
@@ -40,7 +48,14 @@ fn push_row(pairs: &mut [u64], k: usize, parents: bool, table: &[u64], w: usize,
 }
 
 // The pairs of all n rows, in input order.
-fn fill_pairs(pairs: &mut [u64], parents: bool, table: &[u64], width: usize, n: usize, edges: &[u64])
+fn fill_pairs(
+    pairs: &mut [u64],
+    parents: bool,
+    table: &[u64],
+    width: usize,
+    n: usize,
+    edges: &[u64],
+)
     requires { ⌜ headWidth ≤ width ⌝ }
     requires { ⌜ n * width ≤ length (now table) ⌝ }
     requires { ⌜ edgesFrom width (now table) n 0 ≡ length (now edges) ⌝ }
@@ -58,8 +73,37 @@ fn fill_pairs(pairs: &mut [u64], parents: bool, table: &[u64], width: usize, n: 
     }
 }
 
+// How many pairs the n rows have, of parents or of children. `total` is how many edge words they have.
+pub fn count_pairs(parents: bool, table: &[u64], width: usize, n: usize, total: usize) -> usize
+    requires { ⌜ headWidth ≤ width ⌝ }
+    requires { ⌜ n * width ≤ length (now table) ⌝ }
+    requires { ⌜ edgesFrom width (now table) n 0 ≡ total ⌝ }
+    ensures { λ r. ⌜ r ≡ sidesFrom parents width (now (table .entry)) n 0 ⌝ }
+{
+    let mut i = 0;
+    let mut k = 0;
+    while i < n {
+        let w = i * width;
+        i += 1;
+        if parents {
+            k += table[w + 9] as usize;
+        } else {
+            k += table[w + 10] as usize;
+        }
+    }
+    k
+}
+
 // The index of the k pairs, of parents or of children: three words each.
-pub fn index_pairs(pairs: &mut [u64], k: usize, parents: bool, table: &[u64], width: usize, n: usize, edges: &[u64])
+pub fn index_pairs(
+    pairs: &mut [u64],
+    k: usize,
+    parents: bool,
+    table: &[u64],
+    width: usize,
+    n: usize,
+    edges: &[u64],
+)
     requires { ⌜ headWidth ≤ width ⌝ }
     requires { ⌜ n * width ≤ length (now table) ⌝ }
     requires { ⌜ edgesFrom width (now table) n 0 ≡ length (now edges) ⌝ }

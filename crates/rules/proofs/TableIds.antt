@@ -4,11 +4,11 @@ use Prim.Native.Nat.{ℕ, zero, suc, _+_, _*_}
 use native.Mathlib.Nat.{add-zero, zero-mul, add-mul, one-mul}
 use native.Mathlib.Omega.{arith}
 use mathlib.Core.Path.{_≡_, refl, sym, ap, _∙_}
-use mathlib.Core.List.{List, [], _∷_, map}
+use mathlib.Core.List.{List, _∷_, map}
 use lib.ListN.{getD, drop}
 use lib.Seq.{getD-drop, drop-drop}
 use Rattle.words.specs.Table.{ids}
-use Rattle.rules.specs.Model.{Segment, Placement, idsOf}
+use Rattle.rules.specs.Model.{Placement, idsOf}
 use Rattle.rules.specs.Tables.{placeWidth, parentsAt, childrenAt, segmentsFrom, placementsFrom, placements}
 
 -- one row of n, at row i

@@ -67,12 +67,13 @@ loop-less c = search needs
 
 loop-again : tie.Need-loop-again Inv-loop μ-loop
 loop-again c =
+    let put = c .before .before .before .before .put3 in
     let l = c .before .before .before .before .before .before .before .before .loop in
-    let s = c .before .before .before .before .before .before .before .before .before .before .before in (
+    let a = c .before .before .before .before .before .before .before .before .before .before .before .args in (
       search needs,
       search needs,
       search place-next,
-      rows-next (s .args .table .now) (l .index) (s .args .index .now) (s .args .n) (l .i) (omega arith) (l .inv .3) (omega arith) (c .before .before .before .before .put3 .last .0) (l .at) (l .inv .2) (c .before .before .before .before .put3 .ensures),
+      rows-next (a .table .now) (l .index) (a .index .now) (a .n) (l .i) (omega arith) (l .inv .3) (omega arith) (put .last .0) (l .at) (l .inv .2) (put .ensures),
     )
 
 same-length : tie.Need-same-length Inv-loop μ-loop

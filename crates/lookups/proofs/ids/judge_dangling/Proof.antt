@@ -4,7 +4,7 @@ use Rattle.rules.specs.Rows.{danglingFrom}
 use Rattle.words.specs.Table.{ids}
 use lib.ListN.{drop}
 use mathlib.Core.Path.{_≡_}
-use Prim.Native.Nat.{_≤_, _-_}
+use Prim.Native.Nat.{_-_}
 use Rattle.lookups.proofs.Dangling.{dangling-end-ids, dangling-hit-ids, dangling-next-ids}
 use borrow.Author.Needs.{needs}
 use Rattle.lookups.proofs.ids.judge_dangling.Statement.{statement}

@@ -1,3 +1,5 @@
+-- `fill_pairs` meets its contract: the pairs that stand there and those of the rows to come are all of them.
+-- Assumes nothing.
 use native.Mathlib.Omega.{arith}
 use Prim.Native.Nat.{ℕ, _+_, _*_, _≤_}
 use mathlib.Core.List.{List}
@@ -9,9 +11,6 @@ use Rattle.lookups.proofs.Filled.{Filling, fill-start, fill-next, fill-
 use borrow.Author.Needs.{needs}
 use Rattle.lookups.proofs.links.fill_pairs.Statement.{statement}
 use Rattle.lookups.proofs.links.fill_pairs.Tie as tie
-use Rattle.lookups.proofs.links.fill_pairs.Reads as reads
-use Rattle.lookups.proofs.links.fill_pairs.Lts as lts
-use Rattle.lookups.proofs.links.push_row.Reads as push-row-reads
 
 abbrev Inv-loop : tie.InvT-loop
 Inv-loop pairs₀ parents table width n edges i₀ at₀ k₀ pairs i at k = (length pairs ≡ length pairs₀) × Filling parents width table edges n pairs i at k
@@ -33,67 +32,51 @@ module _ (c : tie.In-loop Inv-loop μ-loop) where
   room : c .before .loop .at + parentsAt table w + childrenAt table w ≤ length (c .before .before .before .before .before .args .edges .now)
   room = search row-room
 
--- src/links.rt:53:5
 loop-holds : tie.Need-loop-holds Inv-loop μ-loop
 loop-holds c = (search needs, search fill-start)
 
--- src/links.rt:54:17
 mul-w : tie.Need-mul-w Inv-loop μ-loop
 mul-w c = omega (arith, words c)
 
--- src/links.rt:55:9
 push-row-requires : tie.Need-push-row-requires Inv-loop μ-loop
 push-row-requires c κs = (search row-in, (search row-room, search pairs-room))
 
--- src/links.rt:56:25
 add-at : tie.Need-add-at Inv-loop μ-loop
-add-at c = omega (arith, words (c .before .before .before .before ))
+add-at c = omega (arith, words (c .before .before .before .before))
 
--- src/links.rt:56:19
 mul-at : tie.Need-mul-at Inv-loop μ-loop
-mul-at c = omega (arith, words (c .before .before .before .before ))
+mul-at c = omega (arith, words (c .before .before .before .before))
 
--- src/links.rt:56:19
 shared-slice-read-at : tie.Need-shared-slice-read-at Inv-loop μ-loop
-shared-slice-read-at c = omega (arith, words (c .before .before .before .before .before ))
+shared-slice-read-at c = omega (arith, words (c .before .before .before .before .before))
 
--- src/links.rt:56:14
 add-at-2 : tie.Need-add-at-2 Inv-loop μ-loop
-add-at-2 c = omega (arith, room (c .before .before .before .before .before ))
+add-at-2 c = omega (arith, room (c .before .before .before .before .before))
 
--- src/links.rt:56:49
 add-at-3 : tie.Need-add-at-3 Inv-loop μ-loop
-add-at-3 c = omega (arith, words (c .before .before .before .before .before ))
+add-at-3 c = omega (arith, words (c .before .before .before .before .before))
 
--- src/links.rt:56:43
 mul-at-2 : tie.Need-mul-at-2 Inv-loop μ-loop
-mul-at-2 c = omega (arith, words (c .before .before .before .before .before ))
+mul-at-2 c = omega (arith, words (c .before .before .before .before .before))
 
--- src/links.rt:56:43
 shared-slice-read-at-2 : tie.Need-shared-slice-read-at-2 Inv-loop μ-loop
-shared-slice-read-at-2 c = omega (arith, words (c .before .before .before .before .before .before ))
+shared-slice-read-at-2 c = omega (arith, words (c .before .before .before .before .before .before))
 
--- src/links.rt:56:14
 add-at-4 : tie.Need-add-at-4 Inv-loop μ-loop
-add-at-4 c = omega (arith, room (c .before .before .before .before .before .before ))
+add-at-4 c = omega (arith, room (c .before .before .before .before .before .before))
 
--- src/links.rt:57:9
 add-i : tie.Need-add-i Inv-loop μ-loop
 add-i c = search needs
 
--- src/links.rt:53:5
 loop-less : tie.Need-loop-less Inv-loop μ-loop
 loop-less c = search needs
 
--- src/links.rt:53:5
 loop-again : tie.Need-loop-again Inv-loop μ-loop
 loop-again c = (search needs, search fill-next)
 
--- src/links.rt:43:1
 same-length : tie.Need-same-length Inv-loop μ-loop
 same-length c = search needs
 
--- src/links.rt:43:1
 returns : tie.Need-returns Inv-loop μ-loop
 returns c = search fill-end
 

@@ -1,3 +1,5 @@
+-- `push_pairs` meets its contract: after j turns the pairs of the first j items stand behind row k.
+-- Assumes nothing.
 use Prim.Native.Nat.{_+_, _≤_, _-_}
 use mathlib.Core.Path.{_≡_}
 use mathlib.Core.List.{_++_, map}
@@ -8,9 +10,6 @@ use Rattle.lookups.proofs.Pushed.{push-start, push-next, push-end}
 use borrow.Author.Needs.{needs}
 use Rattle.lookups.proofs.links.push_pairs.Statement.{statement}
 use Rattle.lookups.proofs.links.push_pairs.Tie as tie
-use Rattle.lookups.proofs.links.push_pairs.Reads as reads
-use Rattle.lookups.proofs.links.push_pairs.Lts as lts
-use Rattle.sorts.proofs.put3.Reads as put3-reads
 
 abbrev Inv-loop : tie.InvT-loop
 Inv-loop pairs₀ k id list j₀ pairs j = (j ≤ length list) × (length pairs ≡ length pairs₀) × (take (k + j) (rows pairs) ≡ take k (rows pairs₀) ++ map (pairOf id) (take j list))
@@ -18,47 +17,36 @@ Inv-loop pairs₀ k id list j₀ pairs j = (j ≤ length list) × (length pairs 
 abbrev μ-loop : tie.MeasureT-loop
 μ-loop pairs₀ k id list j₀ pairs j = length list - j
 
--- src/links.rt:17:5
 loop-holds : tie.Need-loop-holds Inv-loop μ-loop
 loop-holds c = (search needs, search needs, search push-start)
 
--- src/links.rt:18:20
 mul-item : tie.Need-mul-item Inv-loop μ-loop
 mul-item c = search needs
 
--- src/links.rt:18:20
 shared-slice-read-item : tie.Need-shared-slice-read-item Inv-loop μ-loop
 shared-slice-read-item c = search needs
 
--- src/links.rt:19:28
 add-put3 : tie.Need-add-put3 Inv-loop μ-loop
 add-put3 c = search needs
 
--- src/links.rt:19:9
 put3-requires : tie.Need-put3-requires Inv-loop μ-loop
 put3-requires c κs = search needs
 
--- src/links.rt:20:9
 add-j : tie.Need-add-j Inv-loop μ-loop
 add-j c = search needs
 
--- src/links.rt:17:5
 loop-less : tie.Need-loop-less Inv-loop μ-loop
 loop-less c = search needs
 
--- src/links.rt:17:5
 loop-again : tie.Need-loop-again Inv-loop μ-loop
 loop-again c = (search needs, search needs, search push-next)
 
--- src/links.rt:22:5
 add-result : tie.Need-add-result Inv-loop μ-loop
 add-result c = search needs
 
--- src/links.rt:11:1
 same-length : tie.Need-same-length Inv-loop μ-loop
 same-length c = search needs
 
--- src/links.rt:11:1
 returns : tie.Need-returns Inv-loop μ-loop
 returns c = (search needs, search push-end)
 
