@@ -115,9 +115,52 @@ module _ (table edges : List ℕ) (n : ℕ) (t : Tabled table edges n) (cpairs p
   abbrev S : List Segment
   S = heldSegments table edges n
 
+  -- the row that was found is the segment of its id
+  at-row : (x r : ℕ) → whereIs (ids table heldWidth n) x ≡ At r → lookup (idAt table r) S ≡ some (segmentIn table edges r)
+  at-row x r e =
+      let q : idAt table r ≡ x = Rows.row-found table heldWidth n x r e .1 in
+      ap (λ (k : ℕ). lookup k S) q ∙ (lookup-found table edges x n ∙ ap (segmentFound table edges) e)
+
   parent-told : (i x : ℕ) → parentWhere table cpairs i x (whereIs (ids table heldWidth n) x) ≡ parentRule S (segmentIn table edges i) x
-  unfolding parentRule
+  unfolding parentRule parentWhere parentKnown parentAt parentFound
   parent-told i x = go (whereIs (ids table heldWidth n) x) refl ∙ ap (parentKnown (segmentIn table edges i) x) (sym (lookup-found table edges x n))
     where
       go : (f : Found) → whereIs (ids table heldWidth n) x ≡ f → parentWhere table cpairs i x f ≡ parentKnown (segmentIn table edges i) x (segmentFound table edges f)
-      go f e = ?
+      go Nothing e = refl
+      go (At r) e = rw (cs .tells (idAt table r) (idAt table i) (segmentIn table edges r) (at-row x r e))
+
+  child-told : (i x : ℕ) → childWhere table ppairs i x (whereIs (ids table heldWidth n) x) ≡ childRule S (segmentIn table edges i) x
+  unfolding childRule childWhere childKnown childAt childFound
+  child-told i x = go (whereIs (ids table heldWidth n) x) refl ∙ ap (childKnown (segmentIn table edges i) x) (sym (lookup-found table edges x n))
+    where
+      go : (f : Found) → whereIs (ids table heldWidth n) x ≡ f → childWhere table ppairs i x f ≡ childKnown (segmentIn table edges i) x (segmentFound table edges f)
+      go Nothing e = refl
+      go (At r) e = rw (ps .tells (idAt table r) (idAt table i) (segmentIn table edges r) (at-row x r e))
+
+  row-told : (i : ℕ) → rowLinks table edges n cpairs ppairs i (startOf heldWidth table i) ≡ linksRule S (segmentIn table edges i)
+  unfolding rowLinks linksRule
+  row-told i =
+      let a = each-same _ _ (parent-told i) (segmentIn table edges i .parents) ∙ parents-each S (segmentIn table edges i) (segmentIn table edges i .parents) in
+      let b = each-same _ _ (child-told i) (segmentIn table edges i .children) ∙ children-each S (segmentIn table edges i) (segmentIn table edges i .children) in
+      rw (a, b)
+
+  rows-told : (m i : ℕ) → rowsLinks table edges n cpairs ppairs m i (startOf heldWidth table i) ≡ linksFrom S (segmentsFrom heldWidth table edges m i (startOf heldWidth table i))
+  unfolding rowsLinks linksFrom
+  rows-told zero i = refl
+  rows-told (suc m) i =
+      let next : rowsLinks table edges n cpairs ppairs m (i + 1) (startOf heldWidth table i + parentsAt table (i * heldWidth) + childrenAt table (i * heldWidth))
+      ≡ linksFrom S (segmentsFrom heldWidth table edges m (i + 1) (startOf heldWidth table i + parentsAt table (i * heldWidth) + childrenAt table (i * heldWidth))) =
+      rw (← start-next heldWidth table i) (rows-told m (i + 1)) in
+      rw (row-told i, next)
+
+  pub links-told : rowsLinks table edges n cpairs ppairs n 0 0 ≡ linksFrom S S
+  links-told = rows-told n 0
+
+  -- ---- what the loop's needs ask
+
+  module _ (i at : ℕ) (here : at ≡ startOf heldWidth table i) (below : i < n) where
+    pub row-room : at + parentsAt table (i * heldWidth) + childrenAt table (i * heldWidth) ≤ length edges
+    row-room = omega (arith, start-room heldWidth table n i (length edges) (t .counts) below)
+
+    pub next-start : at + parentsAt table (i * heldWidth) + childrenAt table (i * heldWidth) ≡ startOf heldWidth table (i + 1)
+    next-start = rw (here, start-next heldWidth table i)
