@@ -1,6 +1,6 @@
 -- What the walk over the edge counts uses of `edgesFrom`: one row more. `left` is what is left of `len` after the rows before i; the walk's
 -- invariant, `rest`, says that the counts of all rows are those of the rows to come and what has been taken. Assumes nothing.
-use Prim.Native.Nat.{ℕ, suc, _+_, _-_, _*_, _≤_, _<_}
+use Prim.Native.Nat.{ℕ, _+_, _-_, _*_, _≤_, _<_}
 use native.Mathlib.Nat.{sub-zero}
 use mathlib.Core.Path.{_≡_, refl, sym, ap, _∙_}
 use mathlib.Core.Bool.{Bool, true, false, not}
