@@ -156,11 +156,17 @@ module _ (table edges : List ℕ) (n : ℕ) (t : Tabled table edges n) (cpairs p
   pub links-told : rowsLinks table edges n cpairs ppairs n 0 0 ≡ linksFrom S S
   links-told = rows-told n 0
 
-  -- ---- what the loop's needs ask
+-- ---- what the loop's needs ask
 
-  module _ (i at : ℕ) (here : at ≡ startOf heldWidth table i) (below : i < n) where
-    pub row-room : at + parentsAt table (i * heldWidth) + childrenAt table (i * heldWidth) ≤ length edges
-    row-room = omega (arith, start-room heldWidth table n i (length edges) (t .counts) below)
+module _ (table edges : List ℕ) (n : ℕ) (t : Tabled table edges n) (i at : ℕ) (here : at ≡ startOf heldWidth table i) (below : i < n) where
+  pub row-room : at + parentsAt table (i * heldWidth) + childrenAt table (i * heldWidth) ≤ length edges
+  row-room = omega (arith, start-room heldWidth table n i (length edges) (t .counts) below)
 
-    pub next-start : at + parentsAt table (i * heldWidth) + childrenAt table (i * heldWidth) ≡ startOf heldWidth table (i + 1)
-    next-start = rw (here, start-next heldWidth table i)
+  pub parents-fit : length edges < 2 ^ 64 → Fits w64 (at + parentsAt table (i * heldWidth))
+  parents-fit h = record { fits = omega (arith, row-room) }
+
+  pub row-fits : length edges < 2 ^ 64 → Fits w64 (at + parentsAt table (i * heldWidth) + childrenAt table (i * heldWidth))
+  row-fits h = record { fits = omega (arith, row-room) }
+
+  pub next-start : at + parentsAt table (i * heldWidth) + childrenAt table (i * heldWidth) ≡ startOf heldWidth table (i + 1)
+  next-start = rw (here, start-next heldWidth table i)

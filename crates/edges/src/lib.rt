@@ -128,7 +128,14 @@ fn judge_parents(table: &[u64], n: usize, pairs: &[u64], k: usize, i: usize, lis
 }
 
 // 27, 25: each child of row i, in list order.
-fn judge_children(table: &[u64], n: usize, pairs: &[u64], k: usize, i: usize, list: &[u64]) -> Judged
+fn judge_children(
+    table: &[u64],
+    n: usize,
+    pairs: &[u64],
+    k: usize,
+    i: usize,
+    list: &[u64],
+) -> Judged
     requires { ⌜ n * heldWidth ≤ length (now table) ⌝ }
     requires { ⌜ i < n ⌝ }
     requires { ⌜ Ascends (ids (now table) heldWidth n) ⌝ }
@@ -148,7 +155,17 @@ fn judge_children(table: &[u64], n: usize, pairs: &[u64], k: usize, i: usize, li
 }
 
 // 24 to 27 for row i, whose edges begin at `at`.
-fn judge_row(table: &[u64], edges: &[u64], n: usize, cpairs: &[u64], kc: usize, ppairs: &[u64], kp: usize, i: usize, at: usize) -> Judged
+fn judge_row(
+    table: &[u64],
+    edges: &[u64],
+    n: usize,
+    cpairs: &[u64],
+    kc: usize,
+    ppairs: &[u64],
+    kp: usize,
+    i: usize,
+    at: usize,
+) -> Judged
     requires { ⌜ n * heldWidth ≤ length (now table) ⌝ }
     requires { ⌜ i < n ⌝ }
     requires { ⌜ Ascends (ids (now table) heldWidth n) ⌝ }
@@ -168,7 +185,15 @@ fn judge_row(table: &[u64], edges: &[u64], n: usize, cpairs: &[u64], kc: usize, 
 }
 
 // 24 to 27 over a table ascending by id. The indexes tell of each segment's children and of its parents.
-pub fn judge_links(table: &[u64], edges: &[u64], n: usize, cpairs: &[u64], kc: usize, ppairs: &[u64], kp: usize) -> Judged
+pub fn judge_links(
+    table: &[u64],
+    edges: &[u64],
+    n: usize,
+    cpairs: &[u64],
+    kc: usize,
+    ppairs: &[u64],
+    kp: usize,
+) -> Judged
     requires { ⌜ Tabled (now table) (now edges) n ⌝ }
     requires { ⌜ Tells (side false) (heldSegments (now table) (now edges) n) (now cpairs) kc ⌝ }
     requires { ⌜ Tells (side true) (heldSegments (now table) (now edges) n) (now ppairs) kp ⌝ }

@@ -1,3 +1,4 @@
+use Rattle.edges.proofs.Told.{row-below, child-at, child-nowhere}
 use borrow.Author.Needs.{needs}
 use Rattle.edges.proofs.judge_child.Statement.{statement}
 use Rattle.edges.proofs.judge_child.Tie as tie
@@ -17,7 +18,7 @@ enum-known-r c = search needs
 
 -- src/lib.rt:103:25
 judge-child-at-requires : tie.Need-judge-child-at-requires
-judge-child-at-requires c κs = search needs
+judge-child-at-requires c κs = search (needs, row-below)
 
 -- src/lib.rt:105:28
 enum-told : tie.Need-enum-told
@@ -41,11 +42,11 @@ refuse-requires c κs = search needs
 
 -- src/lib.rt:94:1
 returns : tie.Need-returns
-returns c = search needs
+returns c = search child-at
 
 -- src/lib.rt:94:1
 returns-2 : tie.Need-returns-2
-returns-2 c = search needs
+returns-2 c = search child-nowhere
 
 pub judge-child-spec : {M : Type 1} → statement M
 judge-child-spec =

@@ -1,3 +1,5 @@
+use Rattle.answers.proofs.Judging.{judging, chain}
+use Rattle.edges.specs.Links.{childAt}
 use borrow.Author.Needs.{needs}
 use Rattle.edges.proofs.judge_child_at.Statement.{statement}
 use Rattle.edges.proofs.judge_child_at.Tie as tie
@@ -40,11 +42,13 @@ refuse-requires c κs = search needs
 
 -- src/lib.rt:88:9
 returns : tie.Need-returns
-returns c = search needs
+unfolding childAt
+returns c = search chain
 
 -- src/lib.rt:78:1
 returns-2 : tie.Need-returns-2
-returns-2 c = search needs
+unfolding childAt
+returns-2 c = search chain
 
 pub judge-child-at-spec : {M : Type 1} → statement M
 judge-child-at-spec =

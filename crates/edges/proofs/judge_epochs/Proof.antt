@@ -1,3 +1,5 @@
+use Rattle.answers.proofs.Judging.{judging, chain}
+use Rattle.rules.specs.Edges.{epochRule}
 use borrow.Author.Needs.{needs}
 use Rattle.edges.proofs.judge_epochs.Statement.{statement}
 use Rattle.edges.proofs.judge_epochs.Tie as tie
@@ -11,7 +13,8 @@ refuse-requires c κs = search needs
 
 -- src/lib.rt:24:9
 returns : tie.Need-returns
-returns c = search needs
+unfolding epochRule
+returns c = search judging
 
 -- src/lib.rt:27:9
 refuse-requires-2 : tie.Need-refuse-requires-2
@@ -19,11 +22,13 @@ refuse-requires-2 c κs = search needs
 
 -- src/lib.rt:27:9
 returns-2 : tie.Need-returns-2
-returns-2 c = search needs
+unfolding epochRule
+returns-2 c = search judging
 
 -- src/lib.rt:20:1
 returns-3 : tie.Need-returns-3
-returns-3 c = search needs
+unfolding epochRule
+returns-3 c = search judging
 
 pub judge-epochs-spec : {M : Type 1} → statement M
 judge-epochs-spec =

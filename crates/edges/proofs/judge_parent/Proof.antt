@@ -1,3 +1,4 @@
+use Rattle.edges.proofs.Told.{row-below, parent-at, parent-nowhere}
 use borrow.Author.Needs.{needs}
 use Rattle.edges.proofs.judge_parent.Statement.{statement}
 use Rattle.edges.proofs.judge_parent.Tie as tie
@@ -17,7 +18,7 @@ enum-known-r c = search needs
 
 -- src/lib.rt:69:25
 judge-parent-at-requires : tie.Need-judge-parent-at-requires
-judge-parent-at-requires c κs = search needs
+judge-parent-at-requires c κs = search (needs, row-below)
 
 -- src/lib.rt:71:28
 enum-told : tie.Need-enum-told
@@ -41,11 +42,11 @@ refuse-requires c κs = search needs
 
 -- src/lib.rt:60:1
 returns : tie.Need-returns
-returns c = search needs
+returns c = search parent-at
 
 -- src/lib.rt:60:1
 returns-2 : tie.Need-returns-2
-returns-2 c = search needs
+returns-2 c = search parent-nowhere
 
 pub judge-parent-spec : {M : Type 1} → statement M
 judge-parent-spec =

@@ -1,3 +1,5 @@
+use Rattle.answers.proofs.Judging.{judging, chain}
+use Rattle.edges.specs.Links.{parentAt}
 use borrow.Author.Needs.{needs}
 use Rattle.edges.proofs.judge_parent_at.Statement.{statement}
 use Rattle.edges.proofs.judge_parent_at.Tie as tie
@@ -41,7 +43,8 @@ refuse-requires c κs = search needs
 
 -- src/lib.rt:54:9
 returns : tie.Need-returns
-returns c = search needs
+unfolding parentAt
+returns c = search chain
 
 -- src/lib.rt:56:39
 add-judge-epochs : tie.Need-add-judge-epochs
@@ -85,7 +88,8 @@ judge-epochs-requires c κs = search needs
 
 -- src/lib.rt:42:1
 returns-2 : tie.Need-returns-2
-returns-2 c = search needs
+unfolding parentAt
+returns-2 c = search chain
 
 pub judge-parent-at-spec : {M : Type 1} → statement M
 judge-parent-at-spec =

@@ -1,3 +1,5 @@
+use mathlib.Core.Path.{ap}
+use mathlib.Core.Bool.{not}
 use borrow.Author.Needs.{needs}
 use Rattle.edges.proofs.lacks_pair.Statement.{statement}
 use Rattle.edges.proofs.lacks_pair.Tie as tie
@@ -11,7 +13,7 @@ has-pair-requires c κs = search needs
 
 -- src/lib.rt:33:1
 returns : tie.Need-returns
-returns c = search needs
+returns c = ap not (c .has-pair .ensures)
 
 pub lacks-pair-spec : {M : Type 1} → statement M
 lacks-pair-spec = tie.close (tie.spec has-pair-requires returns)
