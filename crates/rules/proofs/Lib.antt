@@ -11,3 +11,4 @@ pub mod Answers
 pub mod NoDeadEnd
 pub mod OrderingCases
 pub mod Ascended
+pub mod HeldSegments
