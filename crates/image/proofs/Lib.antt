@@ -1,2 +1,4 @@
 pub mod Words
 pub mod Found
+pub mod KeyWords
+pub mod Rows
