@@ -2,3 +2,5 @@ pub mod Words
 pub mod Found
 pub mod KeyWords
 pub mod Rows
+pub mod Edges
+pub mod HeldWords
