@@ -11,7 +11,6 @@ use lib.ListN.{length, getD}
 use Rattle.lists.specs.Sort.{Row}
 use Rattle.lists.proofs.SortLaws.{In}
 use Rattle.words.specs.Part.{part, put}
-use Rattle.words.proofs.PartLaws.{put-as}
 use Rattle.words.proofs.PutMore.{put-join}
 use Rattle.rules.specs.Model.{Segment, Placement, siteOf, heldOf}
 use Rattle.rules.specs.Tables.{rowWidth, heldWidth, headAt, parentsAt, childrenAt, segments, edgesFrom, heldWords, rowsOf, edgesOf, heldRows, heldEdges}

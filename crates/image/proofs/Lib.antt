@@ -4,3 +4,4 @@ pub mod KeyWords
 pub mod Rows
 pub mod Edges
 pub mod HeldWords
+pub mod Laid
