@@ -39,18 +39,18 @@ module _ (w : List ℕ) (b m : ℕ) (room : b + 3 * m ≤ length w) where
 
   module _ (id : ℕ) (f : Found) (said : f ≡ whereIs (ids lent 3 m) id) where
     module _ (q : ℕ) (told : f ≡ At q) where
-      pub found-word : b + q * 3 + 1 < length w
-      found-word = omega (arith, row-found lent 3 m id q (sym said ∙ told) .0)
+      pub found-word : (j : ℕ) → j < 3 → b + q * 3 + j < length w
+      found-word j k = omega (arith, row-found lent 3 m id q (sym said ∙ told) .0)
 
       module _ (h : length w * 8 < 2 ^ 63) where
         pub fits-key : Fits w64 (q * 3)
-        fits-key = record { fits = omega (arith, found-word) }
+        fits-key = record { fits = omega (arith, found-word 0 (omega arith)) }
 
         pub fits-place : Fits w64 (b + q * 3)
-        fits-place = record { fits = omega (arith, found-word) }
+        fits-place = record { fits = omega (arith, found-word 0 (omega arith)) }
 
-        pub fits-word : Fits w64 (b + q * 3 + 1)
-        fits-word = record { fits = omega (arith, found-word) }
+        pub fits-word : (j : ℕ) → j < 3 → Fits w64 (b + q * 3 + j)
+        fits-word j k = record { fits = omega (arith, found-word j k) }
 
       pub found-told : At (getD w (b + q * 3 + 1) 0) ≡ placeFound (part w b (3 * m)) m id
       found-told =

@@ -14,8 +14,9 @@ use Rattle.image.proofs.write_rows.Statement.{statement}
 use Rattle.image.proofs.write_rows.Tie as tie
 
 abbrev Inv-loop : tie.InvT-loop
-Inv-loop w₀ table n places m a b p₀ w p = (p ≤ n) × (length w ≡ length w₀) × Ready w table n places m a b
-    × (w ≡ put w₀ 0 (p * heldWidth) (keyRows table (placements places m) (take p (segmentIndex table n))))
+Inv-loop w₀ table n places m a b p₀ w p =
+    (p ≤ n) × (length w ≡ length w₀) × (w ≡ put w₀ 0 (p * heldWidth) (keyRows table (placements places m) (take p (segmentIndex table n))))
+    × Ready w table n places m a b
 
 abbrev μ-loop : tie.MeasureT-loop
 μ-loop w₀ table n places m a b p₀ w p = n - p
@@ -54,7 +55,7 @@ loop-less : tie.Need-loop-less Inv-loop μ-loop
 loop-less c = search needs
 
 loop-again : tie.Need-loop-again Inv-loop μ-loop
-loop-again c = (search needs, search needs, search row-kept, search rows-next)
+loop-again c = (search needs, search needs, search rows-next, search row-kept)
 
 same-length : tie.Need-same-length Inv-loop μ-loop
 same-length c = search needs

@@ -36,7 +36,7 @@ add-t15 : tie.Need-add-t15
 add-t15 c = search fits-place
 
 add-t16 : tie.Need-add-t16
-add-t16 c = search fits-word
+add-t16 c = search (needs, fits-word)
 
 mul-t17 : tie.Need-mul-t17
 mul-t17 c = search (needs, found-word)
