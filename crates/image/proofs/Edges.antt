@@ -2,23 +2,24 @@
 -- edges-end). All of them are as many as the edge table has, since a sum does not change by sorting (count-index).
 -- Assumes nothing.
 use mathlib.Core.Path.{_≡_, refl, sym, ap, _∙_}
-use mathlib.Core.List.{List, [], _∷_, _++_, append-assoc, append-nil}
+use mathlib.Core.List.{List, [], _∷_, _++_}
 use Prim.Native.Nat.{ℕ, zero, suc, _+_, _*_, _<_, _≤_}
 use native.Mathlib.Omega.{arith}
 use native.Mathlib.Numerals.{add-one}
 use lib.ListN.{length, getD, take, length-append}
-use lib.Seq.{take-suc, take-all}
+use lib.Seq.{take-all}
 use Rattle.lists.specs.Sort.{Row, le3}
 use Rattle.lists.proofs.Sums.{sum-sorted}
 use Rattle.words.specs.Part.{part, put}
 use Rattle.words.proofs.PartLaws.{put-as}
 use Rattle.words.proofs.PutMore.{put-join}
-use Rattle.sorts.specs.Heap.{row0, at}
+use Rattle.sorts.specs.Heap.{at}
 use Rattle.rules.specs.Tables.{rowWidth, parentsAt, childrenAt, stretch, edgesFrom}
 use Rattle.rules.proofs.Places.{start-room, length-stretch}
 use Rattle.indexes.specs.Index.{segmentKeys, segmentIndex}
 use Rattle.indexes.proofs.Keys.{index-at, length-index}
 use Rattle.image.specs.Written.{rowEdges, keyEdges, Indexed}
+use Rattle.image.proofs.InTurn.{turn-more}
 use Rattle.image.proofs.KeyWords.{key-row, key-start, indexed-kept}
 
 -- how many edges the row that begins at word w has, and the rows of some keys
@@ -79,14 +80,8 @@ module _ (table edges : List ℕ) (n : ℕ) (all : edgesFrom rowWidth table n 0 
       let e : at S p .2 + parentsAt table W + childrenAt table W ≡ at S p .2 + count p = omega arith in
       ap (λ (k : ℕ). length (stretch edges (at S p .2) k)) e ∙ length-stretch edges (at S p .2) (count p) (omega (arith, key-room p below))
 
-  edges-append : (k l : List Row) → keyEdges table edges (k ++ l) ≡ keyEdges table edges k ++ keyEdges table edges l
-  edges-append [] l = refl
-  edges-append (x ∷ k) l = rw (edges-append k l) (sym (append-assoc (rowEdges table edges (x .1 * rowWidth) (x .2)) (keyEdges table edges k) (keyEdges table edges l)))
-
   edges-more : (p : ℕ) → p < n → keyEdges table edges (take (suc p) S) ≡ keyEdges table edges (take p S) ++ keyed p
-  edges-more p below =
-      ap (keyEdges table edges) (take-suc S p row0 (omega (arith, length-index table n))) ∙ edges-append (take p S) (at S p ∷ [])
-      ∙ ap (λ (t : List ℕ). keyEdges table edges (take p S) ++ t) (append-nil (keyed p))
+  edges-more p below = turn-more (λ (x : Row). rowEdges table edges (x .1 * rowWidth) (x .2)) S p (omega (arith, length-index table n))
 
   -- the edges of the first p keys are as many as their rows say
   edges-length : (p : ℕ) → p ≤ n → length (keyEdges table edges (take p S)) ≡ countOf table (take p S)

@@ -1,37 +1,28 @@
 -- The loop over the rows: the held words of the first p keys, and of one key more (rows-next, row-kept, rows-end).
 -- The parts that the turns put stand one behind the other (put-join). Assumes nothing.
 use mathlib.Core.Path.{_≡_, refl, sym, ap, _∙_}
-use mathlib.Core.List.{List, [], _∷_, _++_, append-assoc, append-nil}
+use mathlib.Core.List.{List, [], _∷_, _++_}
 use Prim.Native.Nat.{ℕ, _+_, _*_, _<_, _≤_}
 use native.Mathlib.Omega.{arith}
 use native.Mathlib.Numerals.{add-one}
 use native.Mathlib.Nat.{zero-add}
 use lib.ListN.{length, getD, take, length-append}
-use lib.Seq.{take-suc, take-all, length-take-le}
+use lib.Seq.{take-all, length-take-le}
 use Rattle.lists.specs.Sort.{Row}
 use Rattle.words.specs.Part.{put}
 use Rattle.words.proofs.PartLaws.{put-as}
 use Rattle.words.proofs.PutMore.{put-join}
-use Rattle.sorts.specs.Heap.{row0, at}
+use Rattle.sorts.specs.Heap.{at}
 use Rattle.rules.specs.Model.{Placement, siteOf}
 use Rattle.rules.specs.Tables.{rowWidth, heldWidth, headAt, parentsAt, childrenAt}
 use Rattle.rules.proofs.Decode.{held-length}
 use Rattle.indexes.specs.Index.{segmentIndex}
 use Rattle.indexes.proofs.Keys.{length-index}
 use Rattle.image.specs.Written.{rowWords, keyRows, Ready}
+use Rattle.image.proofs.InTurn.{turn-more}
 use Rattle.image.proofs.KeyWords.{key-row, ready-kept}
 
 module _ (table : List ℕ) (ps : List Placement) where
-  rows-append : (k l : List Row) → keyRows table ps (k ++ l) ≡ keyRows table ps k ++ keyRows table ps l
-  rows-append [] l = refl
-  rows-append (x ∷ k) l = rw (rows-append k l) (sym (append-assoc (rowWords table ps (x .1 * rowWidth)) (keyRows table ps k) (keyRows table ps l)))
-
-  rows-more : (l : List Row) (p : ℕ) → p < length l → keyRows table ps (take (p + 1) l) ≡ keyRows table ps (take p l) ++ rowWords table ps (at l p .1 * rowWidth)
-  rows-more l p h =
-      let e : take (p + 1) l ≡ take p l ++ (at l p ∷ []) = rw (add-one, take-suc l p row0 h) refl in
-      ap (keyRows table ps) e ∙ rows-append (take p l) (at l p ∷ [])
-      ∙ ap (λ (t : List ℕ). keyRows table ps (take p l) ++ t) (append-nil (rowWords table ps (at l p .1 * rowWidth)))
-
   row-length : (w : ℕ) → length (rowWords table ps w) ≡ heldWidth
   row-length w = held-length (headAt table w) (parentsAt table w) (childrenAt table w) (siteOf (getD table w 0) ps)
 
@@ -58,12 +49,13 @@ module _ (w₀ w table : List ℕ) (ps : List Placement) (n p : ℕ) (rest : w �
       let size : length (keyRows table ps (take p S)) ≡ p * heldWidth = rows-length table ps (take p S) ∙ ap (λ (k : ℕ). k * heldWidth) (length-take-le p S (omega arith)) in
       let R : List ℕ = rowWords table ps (at S p .1 * rowWidth) in
       let f : rowWords table ps (getD w (a + p * 3 + 1) 0 * rowWidth) ≡ R = ap (λ (r : ℕ). rowWords table ps (r * rowWidth)) (key-row w table n a (ready .first) p below) in
+      let more : keyRows table ps (take (p + 1) S) ≡ keyRows table ps (take p S) ++ R = rw (add-one p) (turn-more (λ (x : Row). rowWords table ps (x .1 * rowWidth)) S p (omega arith)) in
       let z : 0 + p * heldWidth ≡ p * heldWidth = zero-add (p * heldWidth) in
       e ∙ ap (put w (p * heldWidth) heldWidth) f ∙ ap (λ (t : List ℕ). put t (p * heldWidth) heldWidth R) rest
       ∙ ap (λ (k : ℕ). put (put w₀ 0 (p * heldWidth) (keyRows table ps (take p S))) k heldWidth R) (sym z)
       ∙ put-join w₀ 0 (p * heldWidth) (keyRows table ps (take p S)) size (omega (arith, ready .apart, ready .room)) heldWidth R
       ∙ put-as w₀ 0 (p * heldWidth + heldWidth) ((p + 1) * heldWidth) (keyRows table ps (take p S) ++ R) (keyRows table ps (take (p + 1) S))
-      (omega arith) (sym (rows-more table ps S p (omega arith)))
+      (omega arith) (sym more)
 
   pub rows-end : p ≤ n → n ≤ p → w ≡ put w₀ 0 (n * heldWidth) (keyRows table ps (segmentIndex table n))
   rows-end a b =

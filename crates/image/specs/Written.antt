@@ -16,21 +16,24 @@ use Rattle.rules.specs.Model.{Site, Placement, siteOf}
 use Rattle.rules.specs.Tables.{rowWidth, placeWidth, headAt, parentsAt, childrenAt, stretch, placementAt, heldWords}
 use Rattle.indexes.specs.Index.{segmentIndex, placementIndex}
 
+-- the words that f says of each key, one key behind the other
+abbrev pub inTurn : (Row → List ℕ) → List Row → List ℕ
+inTurn f [] = []
+inTurn f (x ∷ l) = f x ++ inTurn f l
+
 -- the held row of the segment row that begins at word w
 abbrev pub rowWords : List ℕ → List Placement → ℕ → List ℕ
 rowWords table ps w = heldWords (headAt table w) (parentsAt table w) (childrenAt table w) (siteOf (getD table w 0) ps)
 
 abbrev pub keyRows : List ℕ → List Placement → List Row → List ℕ
-keyRows table ps [] = []
-keyRows table ps (x ∷ l) = rowWords table ps (x .1 * rowWidth) ++ keyRows table ps l
+keyRows table ps l = inTurn (λ (x : Row). rowWords table ps (x .1 * rowWidth)) l
 
 -- the edges of the row that begins at word w, from `at` on
 abbrev pub rowEdges : List ℕ → List ℕ → ℕ → ℕ → List ℕ
 rowEdges table edges w at = stretch edges at (at + parentsAt table w + childrenAt table w)
 
 abbrev pub keyEdges : List ℕ → List ℕ → List Row → List ℕ
-keyEdges table edges [] = []
-keyEdges table edges (x ∷ l) = rowEdges table edges (x .1 * rowWidth) (x .2) ++ keyEdges table edges l
+keyEdges table edges l = inTurn (λ (x : Row). rowEdges table edges (x .1 * rowWidth) (x .2)) l
 
 -- ---- a placement, found by its row
 
