@@ -1,4 +1,4 @@
--- Where no id stands twice, an index ascends strictly: what `find_row` requires of it.
+-- Where no id stands twice, an index ascends strictly: what `find_row` requires of it (rows-ascend, places-ascend), and of its keys (index-up).
 -- By two places of the index (`up`): the same id at both would be the id of two rows. Assumes nothing.
 use Prim.Native.Nat.{ℕ, _*_, _<_}
 use native.Mathlib.Omega.{arith}
@@ -39,6 +39,10 @@ module _ (table : List ℕ) (width n : ℕ) (K : List Row) (keyed : Keyed (ids t
       ids-at index 3 n j g ∙ sym r ∙ ap (λ (t : List Row). at t j .0) is in
       let l : length (sorted le3 K) ≡ n = sorted-length (ids table width n) K keyed ∙ length-ids table width n in
       omega (arith, get p (omega arith), get q k′, apart p q h (omega arith))
+
+pub index-up : (table : List ℕ) (n : ℕ) → NoTwins table rowWidth n → (p q : ℕ) → p < q → q < n → at (segmentIndex table n) p .0 < at (segmentIndex table n) q .0
+unfolding segmentIndex
+index-up table n t p q h k = apart table rowWidth n (segmentKeys table n 0 0) (rows-keyed table n) t p q h (omega (arith, sorted-length (ids table rowWidth n) (segmentKeys table n 0 0) (rows-keyed table n), length-ids table rowWidth n))
 
 pub rows-ascend : (index table : List ℕ) (n : ℕ) → NoTwins table rowWidth n → length index ≡ 3 * n → rows index ≡ segmentIndex table n → Ascends (ids index 3 n)
 unfolding segmentIndex

@@ -14,3 +14,4 @@ pub mod Ascended
 pub mod Taken
 pub mod Accepts
 pub mod TableIds
+pub mod HeldSegments
