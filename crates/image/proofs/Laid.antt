@@ -25,7 +25,8 @@ use Rattle.rules.specs.Tables.{rowWidth, heldWidth, parentsAt, childrenAt, segm
 use Rattle.rules.proofs.HeldSegments.{held-segments, count-edges}
 use Rattle.tabled.specs.Image.{Image, imageRows, imageEdges, imageSegments}
 use Rattle.tabled.proofs.ByRow.{ids-segments}
-use Rattle.indexes.specs.Index.{segmentIndex, NoTwins}
+use Rattle.words.specs.Twins.{NoTwins}
+use Rattle.indexes.specs.Index.{segmentIndex}
 use Rattle.indexes.proofs.Keys.{segmentOfKey, byId-index, index-in, length-index}
 use Rattle.indexes.proofs.Once.{index-up}
 use Rattle.image.proofs.HeldWords.{held-rows-size, held-edges-size}

@@ -11,11 +11,11 @@ use lib.Seq.{getD-take, length-take-le}
 use Rattle.lists.specs.Lists.{_∈_}
 use Rattle.lists.proofs.HasAt.{has-at}
 use Rattle.words.specs.Table.{ids, Ascends}
-use Rattle.words.specs.Twins.{Twins, twin}
+use Rattle.words.specs.Twins.{Twins, twin, NoTwins}
 use Rattle.words.proofs.TableLaws.{length-ids, ids-at}
 use Rattle.sorts.specs.Rows.{rows}
 use Rattle.rules.specs.Tables.{rowWidth, placeWidth}
-use Rattle.indexes.specs.Index.{segmentKeys, placementKeys, segmentIndex, placementIndex, NoTwins}
+use Rattle.indexes.specs.Index.{segmentKeys, placementKeys, segmentIndex, placementIndex}
 use Rattle.indexes.specs.Marks.{Tells}
 use Rattle.indexes.proofs.Keys.{rows-keyed, places-keyed}
 use Rattle.indexes.proofs.Once.{rows-ascend, places-ascend}

@@ -14,7 +14,8 @@ use Rattle.sorts.specs.Rows.{rows}
 use Rattle.sorts.specs.Heap.{row0, at}
 use Rattle.sorts.proofs.RowLaws.{rows-at}
 use Rattle.rules.specs.Tables.{rowWidth, placeWidth}
-use Rattle.indexes.specs.Index.{segmentKeys, placementKeys, segmentIndex, placementIndex, NoTwins}
+use Rattle.words.specs.Twins.{NoTwins}
+use Rattle.indexes.specs.Index.{segmentKeys, placementKeys, segmentIndex, placementIndex}
 use Rattle.indexes.specs.Marks.{Keyed}
 use Rattle.indexes.proofs.Keyed.{sorted-length, up}
 use Rattle.indexes.proofs.Keys.{key-sorted, rows-keyed, places-keyed}

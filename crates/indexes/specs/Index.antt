@@ -23,7 +23,3 @@ segmentIndex rows n = sorted le3 (segmentKeys rows n 0 0)
 
 unfoldable pub placementIndex : List ℕ → ℕ → List Row
 placementIndex places m = sorted le3 (placementKeys places m 0)
-
--- no two of the first n rows of a table have one id: what 6 establishes for placements and 8 for segments
-abbrev pub NoTwins : List ℕ → ℕ → ℕ → Type 0
-NoTwins table width n = (i j : ℕ) → i < j → j < n → getD table (i * width) 0 ≡ getD table (j * width) 0 → ⊥

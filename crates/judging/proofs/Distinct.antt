@@ -15,7 +15,7 @@ use Rattle.lists.specs.Lists.{has, _∉_}
 use Rattle.rules.specs.Model.{Segment, Placement, idsOf}
 use Rattle.rules.specs.Tables.{rowWidth, placeWidth, parentsAt, childrenAt, segmentsFrom, segments, placementsFrom, placements}
 use Rattle.rules.specs.Rows.{countedRule, rowsFrom, rowsRule, placesFrom, placementsRule}
-use Rattle.judging.specs.Once.{NoTwins}
+use Rattle.words.specs.Twins.{NoTwins}
 
 -- none of the ids is among `seen` or the ids before it
 abbrev Fresh : List ℕ → List ℕ → Type 0

@@ -22,7 +22,7 @@ use Rattle.lists.proofs.Tests.{any-sorted}
 use Rattle.sorts.specs.Heap.{row0}
 use Rattle.rules.specs.Model.{Segment, idOf, idsOf, lookup}
 use Rattle.rules.specs.Tables.{parentsAt, childrenAt, segmentsFrom}
-use Rattle.indexes.specs.Index.{NoTwins}
+use Rattle.words.specs.Twins.{NoTwins}
 use Rattle.lookups.specs.PairSearch.{hasPair, Ordered}
 use Rattle.lookups.specs.Sides.{Distinct, pairOf, pairsOf, side, pairIndex}
 
