@@ -1,0 +1,5 @@
+pub mod Kept
+pub mod Rowed
+pub mod Growing
+pub mod Placing
+pub mod Lent
