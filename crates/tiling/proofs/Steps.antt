@@ -1,9 +1,9 @@
 -- What the functions' proofs use of the walk: its start, its turn and its ends, over plain lists of words.
 -- Assumes nothing.
-use Prim.Native.Nat.{ℕ, zero, suc, _+_, _-_, _*_, _≤_, _<_, _^_}
+use Prim.Native.Nat.{ℕ, _+_, _-_, _*_, _≤_, _<_}
 use native.Mathlib.Numerals.{add-one}
 use native.Mathlib.Omega.{arith}
-use mathlib.Core.Path.{_≡_, refl, sym, ap, _∙_}
+use mathlib.Core.Path.{_≡_, refl, sym, _∙_}
 use mathlib.Core.Bool.{Bool, true, false, not, _||_}
 use mathlib.Core.List.{List, [], _∷_}
 use mir.Syntax.{w64}
@@ -15,7 +15,7 @@ use lib.Dec.{eqb, ltb}
 use Rattle.lists.specs.Lists.{none}
 use Rattle.lists.specs.Sort.{Row, le3, sorted}
 use Rattle.sorts.specs.Rows.{rows}
-use Rattle.sorts.specs.Heap.{row0, at}
+use Rattle.sorts.specs.Heap.{row0}
 use Rattle.sorts.proofs.RowLaws.{rows-at, rows-length}
 use Rattle.answers.specs.declared.Judged.{Judged}
 use Rattle.answers.specs.Answer.{refuse0, refuse2}

@@ -1,12 +1,10 @@
 -- One range more behind those that stand: by a loan of the ranges and the room for one.
 -- Assumes nothing.
-use Prim.Native.Nat.{ℕ, zero, suc, _+_, _-_, _*_, _≤_, _<_}
-use native.Mathlib.Numerals.{add-one}
+use Prim.Native.Nat.{ℕ, zero, suc, _+_, _-_, _*_, _≤_}
 use native.Mathlib.Omega.{arith}
 use mathlib.Core.Path.{_≡_, refl, sym, ap, _∙_}
-use mathlib.Core.Option.{Option, none, some}
 use mathlib.Core.List.{List, [], _∷_, _++_, append-nil}
-use lib.ListN.{length, getD, take, drop, set, length-set}
+use lib.ListN.{length, take, drop, set, length-set}
 use lib.Seq.{take-all, take-take, take-suc-set}
 use Rattle.words.specs.Part.{part, put}
 use Rattle.words.specs.Table.{ids, whereIs}
@@ -16,11 +14,11 @@ use Rattle.words.proofs.PartLaws.{Loan, loan, part-as, part-length}
 use Rattle.lists.specs.Sort.{Row}
 use Rattle.sorts.specs.Rows.{rows}
 use Rattle.sorts.proofs.RowLaws.{rows-length}
-use Rattle.rules.specs.Model.{Segment, lookup}
+use Rattle.rules.specs.Model.{lookup}
 use Rattle.rules.specs.Tables.{heldWidth}
 use Rattle.rules.specs.Tiling.{rangeFound}
 use Rattle.tabled.specs.Image.{Image, imageSegments}
-use Rattle.transitions.specs.Ranges.{ranges, rangeAt, Grown, segmentOf}
+use Rattle.transitions.specs.Ranges.{ranges, rangeAt, Grown}
 use Rattle.transitions.proofs.Rowed.{found-none, found-row, found-some, range-row}
 
 pub rows-take : (k : ℕ) (w : List ℕ) → 3 * k ≤ length w → rows (take (3 * k) w) ≡ take k (rows w)

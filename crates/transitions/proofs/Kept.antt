@@ -9,9 +9,8 @@ use lib.ListN.{length, getD, take}
 use lib.Seq.{getD-take}
 use Rattle.words.specs.Part.{part}
 use Rattle.words.proofs.PartLaws.{part-in}
-use Rattle.rules.specs.Model.{Segment}
 use Rattle.rules.specs.Tables.{heldWidth, heldSegments}
-use Rattle.tabled.specs.Image.{Tabled, imageRows, imageEdges, Image, imageSegments}
+use Rattle.tabled.specs.Image.{imageRows, imageEdges, Image, imageSegments}
 use Rattle.transitions.specs.Ranges.{segmentOf}
 
 module _ (w w₀ : List ℕ) (at : ℕ) (kept : take at w ≡ take at w₀) where

@@ -13,7 +13,6 @@ use Rattle.sorts.specs.Rows.{rows}
 use Rattle.answers.specs.declared.Judged.{Judged}
 use Rattle.answers.specs.declared.Judged.the-variants.{Accepted}
 use Rattle.answers.specs.Answer.{refuse1}
-use Rattle.rules.specs.Model.{Segment}
 use Rattle.rules.specs.Tables.{heldWidth}
 use Rattle.rules.specs.Tiling.{tiles, rangesOf, tilingRule, coverageRule}
 use Rattle.tabled.specs.Image.{imageSegments}

@@ -1,6 +1,6 @@
 -- The loops that place ranges, of a list of ids and of the Active rows. What is to be placed in all is what stands and then what is to come.
 -- Assumes nothing.
-use Prim.Native.Nat.{ℕ, zero, suc, _+_, _-_, _*_, _≤_, _<_}
+use Prim.Native.Nat.{ℕ, _+_, _-_, _*_, _≤_, _<_}
 use native.Mathlib.Numerals.{add-one}
 use native.Mathlib.Omega.{arith}
 use mathlib.Core.Path.{_≡_, refl, sym, ap, _∙_}
@@ -16,7 +16,7 @@ use Rattle.lists.specs.Sort.{Row}
 use Rattle.rules.specs.Model.{Segment, lookup}
 use Rattle.rules.specs.Tables.{heldWidth}
 use Rattle.rules.specs.Tiling.{rangeOf, rangeFound, rangesOf, activeOf}
-use Rattle.tabled.specs.Image.{Image, imageSegments, imageRows, imageEdges}
+use Rattle.tabled.specs.Image.{Image, imageSegments}
 use Rattle.transitions.specs.Ranges.{ranges, rangeAt, Grown, segmentOf, activeOne}
 use Rattle.transitions.proofs.Kept.{word-kept, segments-kept, segment-kept, image-kept}
 use Rattle.transitions.proofs.Rowed.{row-word, range-row, segments-drop, segments-done}

@@ -1,12 +1,12 @@
 -- The image by row: the segment with an id is the row that a search finds, and its words are the row's.
 -- Assumes nothing.
-use Prim.Native.Nat.{ℕ, _+_, _*_, _≤_, _<_}
+use Prim.Native.Nat.{ℕ, _+_, _-_, _*_, _≤_, _<_}
 use native.Mathlib.Omega.{arith}
 use mathlib.Core.Path.{_≡_, refl, sym, ap, subst, _∙_}
-use mathlib.Core.Option.{Option, none, some}
+use mathlib.Core.Option.{none, some}
 use mathlib.Core.List.{List, [], _∷_}
 use native.Mathlib.Numerals.{add-one}
-use lib.ListN.{length, getD, take, drop, drop-of-length-le}
+use lib.ListN.{length, getD, drop, drop-of-length-le}
 use lib.Seq.{getD-take, ext-getD, drop-cons}
 use Rattle.words.specs.Part.{part}
 use Rattle.words.specs.Table.{ids, Ascends, whereIs}
@@ -16,9 +16,9 @@ use Rattle.words.proofs.PartLaws.{part-length, part-in}
 use Rattle.words.proofs.TableLaws.{length-ids, ids-at, row-found}
 use Rattle.rules.specs.Model.{Segment, lookup}
 use Rattle.rules.specs.Tables.{heldWidth, parentsAt, childrenAt, startOf, stretch}
-use Rattle.rules.specs.Tiling.{rangeOf, rangeFound, parentCount}
+use Rattle.rules.specs.Tiling.{rangeOf}
 use Rattle.rules.proofs.Places.{start-room, length-stretch}
-use Rattle.tabled.specs.Image.{Tabled, imageRows, imageEdges, Image, imageSegments, segmentIn, segmentFound}
+use Rattle.tabled.specs.Image.{imageRows, imageEdges, Image, imageSegments, segmentFound}
 use Rattle.tabled.proofs.ByRow.{lookup-found, segments-length, segments-at}
 use Rattle.transitions.specs.Ranges.{rangeAt, segmentOf}
 
@@ -28,6 +28,10 @@ row-word w n i j h q = getD-take (n * heldWidth) w (i * heldWidth + j) 0 (omega 
 
 pub row-id : (w : List ℕ) (n i : ℕ) → i < n → getD (imageRows w n) (i * heldWidth) 0 ≡ getD w (i * heldWidth) 0
 row-id w n i h = getD-take (n * heldWidth) w (i * heldWidth) 0 (omega arith)
+
+-- a stretch of the edges, as words of the work area
+stretch-words : (w : List ℕ) (base e from k : ℕ) → from + k ≤ e → stretch (part w base e) from (from + k) ≡ part w (base + from) k
+stretch-words w base e from k h = let m : from + k - from ≡ k = omega arith in rw m (part-in w base e from k h)
 
 module _ (w : List ℕ) (n e : ℕ) (g : Image w n e) where
   -- the ids of the image are first words of the work area
@@ -61,6 +65,47 @@ module _ (w : List ℕ) (n e : ℕ) (g : Image w n e) where
 
   pub range-row : (i : ℕ) → i < n → rangeOf (segmentOf w n e i) ≡ rangeAt w i
   range-row i h = λ j. (row-word w n i 1 h (omega arith) j, row-word w n i 2 h (omega arith) j, row-id w n i h j)
+
+  -- ---- the edges of row i, as words
+
+  edges-size : length (imageEdges w n e) ≡ e
+  edges-size = part-length w (n * heldWidth) e (g .room)
+
+  module _ (i : ℕ) (h : i < n) where
+    pub parents-word : parentsAt (imageRows w n) (i * heldWidth) ≡ parentsAt w (i * heldWidth)
+    parents-word = row-word w n i 9 h (omega arith)
+
+    pub children-word : childrenAt (imageRows w n) (i * heldWidth) ≡ childrenAt w (i * heldWidth)
+    children-word = row-word w n i 10 h (omega arith)
+
+    -- they end in the edges of the image
+    pub edges-end : startOf heldWidth (imageRows w n) i + parentsAt w (i * heldWidth) + childrenAt w (i * heldWidth) ≤ e
+    edges-end = omega (arith, start-room heldWidth (imageRows w n) n i (length (imageEdges w n e)) (g .tabled .counts) h, edges-size, parents-word, children-word)
+
+    pub parents-are : part w (n * heldWidth + startOf heldWidth (imageRows w n) i) (parentsAt w (i * heldWidth)) ≡ segmentOf w n e i .parents
+    parents-are =
+        rw (← parents-word)
+        (sym (stretch-words w (n * heldWidth) e (startOf heldWidth (imageRows w n) i) (parentsAt (imageRows w n) (i * heldWidth)) (omega (arith, edges-end, parents-word))))
+
+    pub children-are : part w (n * heldWidth + startOf heldWidth (imageRows w n) i + parentsAt w (i * heldWidth)) (childrenAt w (i * heldWidth)) ≡ segmentOf w n e i .children
+    children-are =
+        let s : ℕ = startOf heldWidth (imageRows w n) i in
+        let p : ℕ = parentsAt (imageRows w n) (i * heldWidth) in
+        let from : n * heldWidth + s + p ≡ n * heldWidth + (s + p) = omega arith in
+        rw (← parents-word, ← children-word, from)
+        (sym (stretch-words w (n * heldWidth) e (s + p) (childrenAt (imageRows w n) (i * heldWidth)) (omega (arith, edges-end, parents-word, children-word))))
+
+    pub parents-length : length (segmentOf w n e i .parents) ≡ parentsAt w (i * heldWidth)
+    parents-length =
+        length-stretch (imageEdges w n e) (startOf heldWidth (imageRows w n) i) (parentsAt (imageRows w n) (i * heldWidth))
+        (omega (arith, edges-end, edges-size, parents-word))
+        ∙ parents-word
+
+    pub children-length : length (segmentOf w n e i .children) ≡ childrenAt w (i * heldWidth)
+    children-length =
+        length-stretch (imageEdges w n e) (startOf heldWidth (imageRows w n) i + parentsAt (imageRows w n) (i * heldWidth)) (childrenAt (imageRows w n) (i * heldWidth))
+        (omega (arith, edges-end, edges-size, parents-word, children-word))
+        ∙ children-word
 
 -- ---- the segments from row i on
 

@@ -1,12 +1,10 @@
 // 31 and 32: the ranges of listed segments must tile the range of one.
 ghost use mathlib.Core.Path.{_≡_};
-ghost use Prim.Native.Nat.{_+_, _*_, _<_, _≤_};
-ghost use lib.ListN.{length, take};
+ghost use lib.ListN.{take};
 ghost use Rattle.words.specs.Part.{part};
-ghost use Rattle.rules.specs.Tables.{heldWidth};
 ghost use Rattle.rules.specs.Tiling.{tilingRule};
-ghost use Rattle.tabled.specs.Image.{Image, imageSegments};
-ghost use Rattle.transitions.specs.Ranges.{segmentOf};
+ghost use Rattle.tabled.specs.Image.{imageSegments};
+ghost use Rattle.transitions.specs.Ranges.{segmentOf, Listed};
 use answers::Judged;
 
 // Row i, and the count ids from word `from` on. The number is 31 for children, 32 for parents.
@@ -20,11 +18,7 @@ pub fn judge_tiling(
     count: usize,
     at: usize,
 ) -> Judged
-    requires { ⌜ Image (now w) n e ⌝ }
-    requires { ⌜ i < n ⌝ }
-    requires { ⌜ n * heldWidth + e ≤ at ⌝ }
-    requires { ⌜ from + count ≤ at ⌝ }
-    requires { ⌜ at + 3 * count ≤ length (now w) ⌝ }
+    requires { ⌜ Listed (now w) n e i from count at ⌝ }
     ensures { λ r. ⌜ r ≡ tilingRule number (imageSegments (now (w .entry)) n e) (segmentOf (now (w .entry)) n e i) (part (now (w .entry)) from count) ⌝ }
     ensures { λ r. ⌜ take at (now (w .exit)) ≡ take at (now (w .entry)) ⌝ }
 {
