@@ -9,7 +9,7 @@ use mir.Val.{Fits}
 use lib.ListN.{length}
 use Rattle.words.specs.Part.{part}
 use Rattle.rules.specs.Tables.{heldWidth, parentsAt, childrenAt}
-use Rattle.transitions.specs.Ranges.{segmentOf, Listed, Edged}
+use Rattle.transitions.specs.Edged.{segmentOf, Listed, Edged}
 use Rattle.transitions.proofs.Rowed.{edges-end, parents-are, children-are}
 
 module _ (w : List ℕ) (n e i start at : ℕ) (g : Edged w n e i start at) where

@@ -23,7 +23,7 @@ use Rattle.rules.specs.Model.{Segment, lookup}
 use Rattle.rules.specs.Tables.{heldWidth, parentsAt, childrenAt}
 use Rattle.rules.specs.Tiling.{parentCount, allSingle, oneMerged, tilingRule, splitRule, forkRule, joinRule}
 use Rattle.tabled.specs.Image.{Image, imageSegments}
-use Rattle.transitions.specs.Ranges.{segmentOf, Edged}
+use Rattle.transitions.specs.Edged.{segmentOf, Edged}
 use Rattle.transitions.proofs.Rowed.{row-id, found-none, found-row, found-some, parents-length, children-length}
 use Rattle.transitions.proofs.Edges.{parents-same}
 

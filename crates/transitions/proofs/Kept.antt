@@ -11,7 +11,7 @@ use Rattle.words.specs.Part.{part}
 use Rattle.words.proofs.PartLaws.{part-in}
 use Rattle.rules.specs.Tables.{heldWidth, heldSegments}
 use Rattle.tabled.specs.Image.{imageRows, imageEdges, Image, imageSegments}
-use Rattle.transitions.specs.Ranges.{segmentOf}
+use Rattle.transitions.specs.Edged.{segmentOf}
 
 module _ (w w₀ : List ℕ) (at : ℕ) (kept : take at w ≡ take at w₀) where
   pub word-kept : (j : ℕ) → j < at → getD w j 0 ≡ getD w₀ j 0

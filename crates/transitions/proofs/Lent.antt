@@ -16,7 +16,8 @@ use Rattle.answers.specs.Answer.{refuse1}
 use Rattle.rules.specs.Tables.{heldWidth}
 use Rattle.rules.specs.Tiling.{tiles, rangesOf, tilingRule, coverageRule}
 use Rattle.tabled.specs.Image.{imageSegments}
-use Rattle.transitions.specs.Ranges.{ranges, segmentOf}
+use Rattle.transitions.specs.Ranges.{ranges}
+use Rattle.transitions.specs.Edged.{segmentOf}
 use Rattle.transitions.proofs.Rowed.{row-word, row-id}
 
 pub lent-kept : (w₀ w ys : List ℕ) (at k n : ℕ) → k ≤ n → at + 3 * n ≤ length w₀ → length w ≡ length w₀ → length ys ≡ length (part w at (at + 3 * k - at)) → take at w ≡ take at w₀

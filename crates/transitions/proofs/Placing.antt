@@ -17,7 +17,8 @@ use Rattle.rules.specs.Model.{Segment, lookup}
 use Rattle.rules.specs.Tables.{heldWidth}
 use Rattle.rules.specs.Tiling.{rangeOf, rangeFound, rangesOf, activeOf}
 use Rattle.tabled.specs.Image.{Image, imageSegments}
-use Rattle.transitions.specs.Ranges.{ranges, rangeAt, Grown, segmentOf, activeOne}
+use Rattle.transitions.specs.Ranges.{ranges, rangeAt, Grown, activeOne}
+use Rattle.transitions.specs.Edged.{segmentOf}
 use Rattle.transitions.proofs.Kept.{word-kept, segments-kept, segment-kept, image-kept}
 use Rattle.transitions.proofs.Rowed.{row-word, range-row, segments-drop, segments-done}
 

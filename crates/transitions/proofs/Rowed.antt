@@ -20,7 +20,8 @@ use Rattle.rules.specs.Tiling.{rangeOf}
 use Rattle.rules.proofs.Places.{start-room, length-stretch}
 use Rattle.tabled.specs.Image.{imageRows, imageEdges, Image, imageSegments, segmentFound}
 use Rattle.tabled.proofs.ByRow.{lookup-found, segments-length, segments-at}
-use Rattle.transitions.specs.Ranges.{rangeAt, segmentOf}
+use Rattle.transitions.specs.Ranges.{rangeAt}
+use Rattle.transitions.specs.Edged.{segmentOf}
 
 -- word j of row i
 pub row-word : (w : List ℕ) (n i j : ℕ) → i < n → j < heldWidth → getD (imageRows w n) (i * heldWidth + j) 0 ≡ getD w (i * heldWidth + j) 0

@@ -8,7 +8,7 @@ ghost use Rattle.rules.specs.Model.{lookup};
 ghost use Rattle.rules.specs.Tables.{heldWidth};
 ghost use Rattle.rules.specs.Tiling.{parentCount, allSingle, oneMerged, splitRule, forkRule, forksFrom};
 ghost use Rattle.tabled.specs.Image.{Image, imageSegments};
-ghost use Rattle.transitions.specs.Ranges.{segmentOf, Listed, Edged};
+ghost use Rattle.transitions.specs.Edged.{segmentOf, Listed, Edged};
 use answers::Judged;
 use words::Found;
 

@@ -5,7 +5,7 @@ ghost use lib.ListN.{length, take};
 ghost use Rattle.rules.specs.Tables.{heldWidth};
 ghost use Rattle.rules.specs.Tiling.{joinRule, joinsFrom};
 ghost use Rattle.tabled.specs.Image.{Image, imageSegments};
-ghost use Rattle.transitions.specs.Ranges.{segmentOf, Edged};
+ghost use Rattle.transitions.specs.Edged.{segmentOf, Edged};
 use answers::Judged;
 
 // Row i, whose edges begin at word `start`.

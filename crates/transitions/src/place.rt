@@ -8,7 +8,8 @@ ghost use Rattle.rules.specs.Model.{lookup};
 ghost use Rattle.rules.specs.Tables.{heldWidth};
 ghost use Rattle.rules.specs.Tiling.{rangeFound, rangesOf, activeOf};
 ghost use Rattle.tabled.specs.Image.{Image, imageSegments};
-ghost use Rattle.transitions.specs.Ranges.{ranges, rangeAt, Grown, segmentOf, activeOne};
+ghost use Rattle.transitions.specs.Ranges.{ranges, rangeAt, Grown, activeOne};
+ghost use Rattle.transitions.specs.Edged.{segmentOf};
 use words::Found;
 
 // The range of row i behind the k ranges.

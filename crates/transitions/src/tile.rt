@@ -4,7 +4,7 @@ ghost use lib.ListN.{take};
 ghost use Rattle.words.specs.Part.{part};
 ghost use Rattle.rules.specs.Tiling.{tilingRule};
 ghost use Rattle.tabled.specs.Image.{imageSegments};
-ghost use Rattle.transitions.specs.Ranges.{segmentOf, Listed};
+ghost use Rattle.transitions.specs.Edged.{segmentOf, Listed};
 use answers::Judged;
 
 // Row i, and the count ids from word `from` on. The number is 31 for children, 32 for parents.
