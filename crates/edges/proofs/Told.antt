@@ -31,7 +31,7 @@ use Rattle.tabled.specs.Image.{Tabled, segmentIn, segmentFound}
 use Rattle.tabled.proofs.ByRow.{lookup-found, segments-at}
 use Rattle.lookups.specs.PairSearch.{hasPair}
 use Rattle.lookups.specs.Sides.{side}
-use Rattle.edges.specs.Links.{Tells, idAt, parentAt, parentWhere, childAt, childWhere, each, rowLinks, rowsLinks}
+use Rattle.edges.specs.Links.{Tells, idAt, parentAt, parentWhere, childAt, childWhere, edgeWhere, each, rowLinks, rowsLinks}
 
 -- ---- one edge: what was found
 
@@ -54,6 +54,13 @@ module _ (table pairs : List ℕ) (n i x : ℕ) (f : Found) (said : f ≡ whereI
   pub child-nowhere : f ≡ Nothing → v ≡ refuse2 27 (idAt table i) x → v ≡ childWhere table pairs i x (whereIs (ids table heldWidth n) x)
   unfolding childWhere
   child-nowhere told e = rw (← said, told, e)
+
+-- which side it is
+pub parent-edge : (b : Bool) (table pairs : List ℕ) (i x : ℕ) (f : Found) (v : Judged) → b ≡ true → v ≡ parentWhere table pairs i x f → v ≡ edgeWhere b table pairs i x f
+parent-edge b table pairs i x f v e k = rw (e, k)
+
+pub child-edge : (b : Bool) (table pairs : List ℕ) (i x : ℕ) (f : Found) (v : Judged) → b ≡ false → v ≡ childWhere table pairs i x f → v ≡ edgeWhere b table pairs i x f
+child-edge b table pairs i x f v e k = rw (e, k)
 
 -- ---- the loop over one list
 

@@ -2,7 +2,7 @@
 -- rule book. Assumes nothing.
 use Prim.Native.Nat.{ℕ, zero, suc, _+_, _*_}
 use mathlib.Core.Path.{_≡_}
-use mathlib.Core.Bool.{not}
+use mathlib.Core.Bool.{Bool, true, false, not}
 use mathlib.Core.Option.{some}
 use mathlib.Core.List.{List, [], _∷_}
 use lib.ListN.{length, getD}
@@ -56,17 +56,19 @@ unfoldable pub each : (ℕ → Judged) → List ℕ → Judged
 each rule [] = Accepted
 each rule (x ∷ xs) = rule x then each rule xs
 
-abbrev pub parentsAll : List ℕ → ℕ → List ℕ → ℕ → List ℕ → Judged
-parentsAll table n pairs i l = each (λ (p : ℕ). parentWhere table pairs i p (whereIs (ids table heldWidth n) p)) l
+-- a parent of row i, or a child
+abbrev pub edgeWhere : Bool → List ℕ → List ℕ → ℕ → ℕ → Found → Judged
+edgeWhere true table pairs i x f = parentWhere table pairs i x f
+edgeWhere false table pairs i x f = childWhere table pairs i x f
 
-abbrev pub childrenAll : List ℕ → ℕ → List ℕ → ℕ → List ℕ → Judged
-childrenAll table n pairs i l = each (λ (c : ℕ). childWhere table pairs i c (whereIs (ids table heldWidth n) c)) l
+abbrev pub edgesAll : Bool → List ℕ → ℕ → List ℕ → ℕ → List ℕ → Judged
+edgesAll parents table n pairs i l = each (λ (x : ℕ). edgeWhere parents table pairs i x (whereIs (ids table heldWidth n) x)) l
 
 -- row i, whose edges begin at `at`
 unfoldable pub rowLinks : List ℕ → List ℕ → ℕ → List ℕ → List ℕ → ℕ → ℕ → Judged
 rowLinks table edges n cpairs ppairs i at =
-    parentsAll table n cpairs i (stretch edges at (at + parentsAt table (i * heldWidth))) then
-    childrenAll table n ppairs i (stretch edges (at + parentsAt table (i * heldWidth)) (at + parentsAt table (i * heldWidth) + childrenAt table (i * heldWidth)))
+    edgesAll true table n cpairs i (stretch edges at (at + parentsAt table (i * heldWidth))) then
+    edgesAll false table n ppairs i (stretch edges (at + parentsAt table (i * heldWidth)) (at + parentsAt table (i * heldWidth) + childrenAt table (i * heldWidth)))
 
 -- m rows from row i on, whose edges begin at `at`
 unfoldable pub rowsLinks : List ℕ → List ℕ → ℕ → List ℕ → List ℕ → ℕ → ℕ → ℕ → Judged

@@ -11,7 +11,7 @@ ghost use Rattle.rules.specs.Tables.{heldWidth, optional, parentsAt, childrenAt
 ghost use Rattle.rules.specs.Edges.{epochRule, linksFrom};
 ghost use Rattle.tabled.specs.Image.{Tabled};
 ghost use Rattle.lookups.specs.Sides.{side};
-ghost use Rattle.edges.specs.Links.{Tells, parentAt, parentWhere, childAt, childWhere, parentsAll, childrenAll, rowLinks};
+ghost use Rattle.edges.specs.Links.{Tells, parentAt, parentWhere, childAt, childWhere, edgeWhere, edgesAll, rowLinks};
 use answers::Judged;
 use words::Found;
 
@@ -107,28 +107,32 @@ fn judge_child(table: &[u64], n: usize, pairs: &[u64], k: usize, i: usize, child
     }
 }
 
-// 24 to 26: each parent of row i, in list order.
-fn judge_parents(table: &[u64], n: usize, pairs: &[u64], k: usize, i: usize, list: &[u64]) -> Judged
+// One edge of row i: a parent (24 to 26) or a child (27, 25).
+fn judge_edge(
+    parents: bool,
+    table: &[u64],
+    n: usize,
+    pairs: &[u64],
+    k: usize,
+    i: usize,
+    x: u64,
+) -> Judged
     requires { ⌜ n * heldWidth ≤ length (now table) ⌝ }
     requires { ⌜ i < n ⌝ }
     requires { ⌜ Ascends (ids (now table) heldWidth n) ⌝ }
     requires { ⌜ length (now pairs) ≡ 3 * k ⌝ }
     requires { ⌜ Ordered (rows (now pairs)) ⌝ }
-    ensures { λ j. ⌜ j ≡ parentsAll (now (table .entry)) n (now (pairs .entry)) i (now (list .entry)) ⌝ }
+    ensures { λ j. ⌜ j ≡ edgeWhere parents (now (table .entry)) (now (pairs .entry)) i x (whereIs (ids (now (table .entry)) heldWidth n) x) ⌝ }
 {
-    let mut j = 0;
-    while j < list.len() {
-        let judged = judge_parent(table, n, pairs, k, i, list[j]);
-        let Judged::Accepted = judged else {
-            return judged;
-        };
-        j += 1;
+    if parents {
+        return judge_parent(table, n, pairs, k, i, x);
     }
-    Judged::Accepted
+    judge_child(table, n, pairs, k, i, x)
 }
 
-// 27, 25: each child of row i, in list order.
-fn judge_children(
+// The parents or the children of row i, in list order.
+fn judge_list(
+    parents: bool,
     table: &[u64],
     n: usize,
     pairs: &[u64],
@@ -141,11 +145,11 @@ fn judge_children(
     requires { ⌜ Ascends (ids (now table) heldWidth n) ⌝ }
     requires { ⌜ length (now pairs) ≡ 3 * k ⌝ }
     requires { ⌜ Ordered (rows (now pairs)) ⌝ }
-    ensures { λ j. ⌜ j ≡ childrenAll (now (table .entry)) n (now (pairs .entry)) i (now (list .entry)) ⌝ }
+    ensures { λ j. ⌜ j ≡ edgesAll parents (now (table .entry)) n (now (pairs .entry)) i (now (list .entry)) ⌝ }
 {
     let mut j = 0;
     while j < list.len() {
-        let judged = judge_child(table, n, pairs, k, i, list[j]);
+        let judged = judge_edge(parents, table, n, pairs, k, i, list[j]);
         let Judged::Accepted = judged else {
             return judged;
         };
@@ -177,11 +181,11 @@ fn judge_row(
     let w = i * rules::HELD;
     let mid = at + table[w + 9] as usize;
     let end = mid + table[w + 10] as usize;
-    let judged = judge_parents(table, n, cpairs, kc, i, &edges[at..mid]);
+    let judged = judge_list(true, table, n, cpairs, kc, i, &edges[at..mid]);
     let Judged::Accepted = judged else {
         return judged;
     };
-    judge_children(table, n, ppairs, kp, i, &edges[mid..end])
+    judge_list(false, table, n, ppairs, kp, i, &edges[mid..end])
 }
 
 // 24 to 27 over a table ascending by id. The indexes tell of each segment's children and of its parents.

@@ -5,8 +5,7 @@ use Rattle.edges.proofs.judge_row.Statement.{statement}
 use Rattle.edges.proofs.judge_row.Tie as tie
 use Rattle.edges.proofs.judge_row.Reads as reads
 use Rattle.edges.proofs.judge_row.Lts as lts
-use Rattle.edges.proofs.judge_children.Reads as judge-children-reads
-use Rattle.edges.proofs.judge_parents.Reads as judge-parents-reads
+use Rattle.edges.proofs.judge_list.Reads as judge-list-reads
 
 -- src/lib.rt:160:13
 mul-w : tie.Need-mul-w
@@ -45,24 +44,24 @@ add-end-2 : tie.Need-add-end-2
 add-end-2 c = search needs
 
 -- src/lib.rt:163:57
-mul-judge-parents : tie.Need-mul-judge-parents
-mul-judge-parents c = search needs
+mul-judge-list : tie.Need-mul-judge-list
+mul-judge-list c = search needs
 
 -- src/lib.rt:163:57
-sub-judge-parents : tie.Need-sub-judge-parents
-sub-judge-parents c = search needs
+sub-judge-list : tie.Need-sub-judge-list
+sub-judge-list c = search needs
 
 -- src/lib.rt:163:57
-part-judge-parents-start : tie.Need-part-judge-parents-start
-part-judge-parents-start c = search needs
+part-judge-list-start : tie.Need-part-judge-list-start
+part-judge-list-start c = search needs
 
 -- src/lib.rt:163:57
-part-judge-parents-end : tie.Need-part-judge-parents-end
-part-judge-parents-end c = search needs
+part-judge-list-end : tie.Need-part-judge-list-end
+part-judge-list-end c = search needs
 
 -- src/lib.rt:163:9
-judge-parents-requires : tie.Need-judge-parents-requires
-judge-parents-requires c κs = let p = c .before .before .before .before .before .before .before .pre in (p .0, (p .1 .0, (p .1 .1 .0, (p .1 .1 .1 .1 .0 .0, p .1 .1 .1 .1 .0 .1))))
+judge-list-requires : tie.Need-judge-list-requires
+judge-list-requires c κs = let p = c .before .before .before .before .before .before .before .pre in (p .0, (p .1 .0, (p .1 .1 .0, (p .1 .1 .1 .1 .0 .0, p .1 .1 .1 .1 .0 .1))))
 
 enum-told : tie.Need-enum-told
 enum-told c = search needs
@@ -77,24 +76,24 @@ unfolding rowLinks
 returns c = search chain
 
 -- src/lib.rt:167:45
-mul-judge-children : tie.Need-mul-judge-children
-mul-judge-children c = search needs
+mul-judge-list-2 : tie.Need-mul-judge-list-2
+mul-judge-list-2 c = search needs
 
 -- src/lib.rt:167:45
-sub-judge-children : tie.Need-sub-judge-children
-sub-judge-children c = search needs
+sub-judge-list-2 : tie.Need-sub-judge-list-2
+sub-judge-list-2 c = search needs
 
 -- src/lib.rt:167:45
-part-judge-children-start : tie.Need-part-judge-children-start
-part-judge-children-start c = search needs
+part-judge-list-start-2 : tie.Need-part-judge-list-start-2
+part-judge-list-start-2 c = search needs
 
 -- src/lib.rt:167:45
-part-judge-children-end : tie.Need-part-judge-children-end
-part-judge-children-end c = search needs
+part-judge-list-end-2 : tie.Need-part-judge-list-end-2
+part-judge-list-end-2 c = search needs
 
 -- src/lib.rt:167:5
-judge-children-requires : tie.Need-judge-children-requires
-judge-children-requires c κs = let p = c .before .before .before .before .before .before .before .before .before .before .before .pre in (p .0, (p .1 .0, (p .1 .1 .0, (p .1 .1 .1 .1 .1 .0, p .1 .1 .1 .1 .1 .1))))
+judge-list-requires-2 : tie.Need-judge-list-requires-2
+judge-list-requires-2 c κs = let p = c .before .before .before .before .before .before .before .before .before .before .before .pre in (p .0, (p .1 .0, (p .1 .1 .0, (p .1 .1 .1 .1 .1 .0, p .1 .1 .1 .1 .1 .1))))
 
 -- src/lib.rt:151:1
 returns-2 : tie.Need-returns-2
@@ -114,17 +113,17 @@ judge-row-spec =
     mul-end
     shared-slice-read-end
     add-end-2
-    mul-judge-parents
-    sub-judge-parents
-    part-judge-parents-start
-    part-judge-parents-end
-    judge-parents-requires
+    mul-judge-list
+    sub-judge-list
+    part-judge-list-start
+    part-judge-list-end
+    judge-list-requires
     enum-told
     enum-told-2
     returns
-    mul-judge-children
-    sub-judge-children
-    part-judge-children-start
-    part-judge-children-end
-    judge-children-requires
+    mul-judge-list-2
+    sub-judge-list-2
+    part-judge-list-start-2
+    part-judge-list-end-2
+    judge-list-requires-2
     returns-2)

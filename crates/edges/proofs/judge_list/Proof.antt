@@ -1,36 +1,37 @@
 use Prim.Native.Nat.{_-_}
 use mathlib.Core.Path.{_≡_}
 use lib.ListN.{length, drop}
-use Rattle.edges.specs.Links.{parentsAll}
+use Rattle.edges.specs.Links.{edgesAll}
 use Rattle.edges.proofs.Told.{each-end, each-refused, each-next}
 use borrow.Author.Needs.{needs}
-use Rattle.edges.proofs.judge_parents.Statement.{statement}
-use Rattle.edges.proofs.judge_parents.Tie as tie
-use Rattle.edges.proofs.judge_parents.Reads as reads
-use Rattle.edges.proofs.judge_parents.Lts as lts
-use Rattle.edges.proofs.judge_parent.Reads as judge-parent-reads
+use Rattle.edges.proofs.judge_list.Statement.{statement}
+use Rattle.edges.proofs.judge_list.Tie as tie
+use Rattle.edges.proofs.judge_list.Reads as reads
+use Rattle.edges.proofs.judge_list.Lts as lts
+use Rattle.edges.proofs.judge_edge.Reads as judge-edge-reads
 
 abbrev Inv-loop : tie.InvT-loop
-Inv-loop table n pairs k i list j₀ j = parentsAll table n pairs i list ≡ parentsAll table n pairs i (drop j list)
+Inv-loop parents table n pairs k i list j₀ j =
+    edgesAll parents table n pairs i list ≡ edgesAll parents table n pairs i (drop j list)
 
 abbrev μ-loop : tie.MeasureT-loop
-μ-loop table n pairs k i list j₀ j = length list - j
+μ-loop parents table n pairs k i list j₀ j = length list - j
 
 -- src/lib.rt:120:5
 loop-holds : tie.Need-loop-holds Inv-loop μ-loop
 loop-holds c = search needs
 
 -- src/lib.rt:121:58
-mul-judge-parent : tie.Need-mul-judge-parent Inv-loop μ-loop
-mul-judge-parent c = search needs
+mul-judge-edge : tie.Need-mul-judge-edge Inv-loop μ-loop
+mul-judge-edge c = search needs
 
 -- src/lib.rt:121:58
-shared-slice-read-judge-parent : tie.Need-shared-slice-read-judge-parent Inv-loop μ-loop
-shared-slice-read-judge-parent c = search needs
+shared-slice-read-judge-edge : tie.Need-shared-slice-read-judge-edge Inv-loop μ-loop
+shared-slice-read-judge-edge c = search needs
 
 -- src/lib.rt:121:13
-judge-parent-requires : tie.Need-judge-parent-requires Inv-loop μ-loop
-judge-parent-requires c κs = search needs
+judge-edge-requires : tie.Need-judge-edge-requires Inv-loop μ-loop
+judge-edge-requires c κs = search needs
 
 enum-told : tie.Need-enum-told Inv-loop μ-loop
 enum-told c = search needs
@@ -59,16 +60,16 @@ loop-again c = search each-next
 returns-2 : tie.Need-returns-2 Inv-loop μ-loop
 returns-2 c = search each-end
 
-pub judge-parents-spec : {M : Type 1} → statement M
-judge-parents-spec =
+pub judge-list-spec : {M : Type 1} → statement M
+judge-list-spec =
     tie.close
     (tie.spec
     Inv-loop
     μ-loop
     loop-holds
-    mul-judge-parent
-    shared-slice-read-judge-parent
-    judge-parent-requires
+    mul-judge-edge
+    shared-slice-read-judge-edge
+    judge-edge-requires
     enum-told
     enum-told-2
     returns
