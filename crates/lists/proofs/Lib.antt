@@ -2,3 +2,6 @@ pub mod Cases
 pub mod SortLaws
 pub mod RowOrder
 pub mod Sums
+pub mod SortMap
+pub mod HasAt
+pub mod Tests

@@ -1,1 +1,4 @@
 pub mod Examples
+pub mod Places
+pub mod Decode
+pub mod TableIds
