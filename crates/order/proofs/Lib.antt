@@ -6,3 +6,4 @@ pub mod AreaSlots
 pub mod AreaStep
 pub mod AreaLoop
 pub mod AreaStart
+pub mod TakenLaws

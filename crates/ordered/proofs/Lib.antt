@@ -1,2 +1,4 @@
 pub mod NodeLaws
 pub mod Alike
+pub mod MapLaws
+pub mod GraphLaws
