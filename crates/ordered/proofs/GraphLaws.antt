@@ -1,19 +1,19 @@
 -- The graph of a table: offsets and edges in node numbers.
---     length-offsets, offsets-even, offsets-odd     what the offsets are, by induction on the rows
+--     length-below, offsets-even, offsets-odd     what the offsets are, by induction on the rows
 --     graph-of     they are a graph, where each edge word has a row
 --     order-of     the rule book's order of the table's segments is the order of the graph, each node by its id
 -- Assumes nothing.
-use mathlib.Core.List.{List, [], map}
+use mathlib.Core.List.{List, [], map, _++_, _∷_}
 use mathlib.Core.Logic.{inl, inr, _⊎_}
 use mathlib.Core.Path.{ap, refl, sym, _∙_, _≡_}
 use Prim.Native.Nat.{suc, zero, zero-le, ℕ, _*_, _+_, _-_, _/_, _<_, _≤_}
 use native.Mathlib.Decide.{decLt, ℕ-discrete}
 use native.Mathlib.Omega.{arith}
 use lib.ListN.{List·getD-append, List·getD-eq-default, getD, length, length-append, length-map}
-use lib.Seq.{ext-getD, getD-append-add, length-slice}
+use lib.Seq.{ext-getD, getD-append-add, getD-append-seam, length-slice}
 use Rattle.order.specs.Graph.{Graph, children, judge, parents}
 use Rattle.ordered.specs.Left.{named}
-use Rattle.ordered.specs.Numbers.{nodeEdges, nodeNamed, offsets, offsetsAt, rowOf}
+use Rattle.ordered.specs.Numbers.{nodeEdges, nodeNamed, offsets, offsetsAt, offsetsBelow, rowOf}
 use Rattle.rules.specs.Model.{Segment, idsOf}
 use Rattle.rules.specs.Order.{nodeOf, orderFrom}
 use Rattle.rules.specs.Tables.{childrenAt, heldSegments, heldWidth, parentsAt, startOf}
@@ -29,39 +29,41 @@ use Rattle.words.proofs.TableLaws.{at-is, length-ids}
 
 -- ---- the offsets
 
-pub length-offsets : (rows : List ℕ) (n : ℕ) → length (offsets rows n) ≡ 2 * n + 1
-unfolding offsets
-length-offsets rows zero = refl
-length-offsets rows (suc n) = omega (arith, length-offsets rows n, length-append (offsets rows n) (offsetsAt rows n))
+pub length-below : (rows : List ℕ) (n : ℕ) → length (offsetsBelow rows n) ≡ 2 * n
+unfolding offsetsBelow
+length-below rows zero = refl
+length-below rows (suc n) = omega (arith, length-below rows n, length-append (offsetsBelow rows n) (offsetsAt rows n))
+
+length-offsets : (rows : List ℕ) (n : ℕ) → length (offsets rows n) ≡ 2 * n + 1
+length-offsets rows n = omega (arith, length-below rows n, length-append (offsetsBelow rows n) (startOf heldWidth rows n ∷ []))
 
 module _ (rows : List ℕ) where
-  -- past the offsets of n rows
-  late : (n k j : ℕ) → j ≡ 2 * n + 1 + k → getD (offsets rows (suc n)) j 0 ≡ getD (offsetsAt rows n) k 0
-  unfolding offsets
-  late n k j e =
-      let z : j ≡ length (offsets rows n) + k = omega (arith, length-offsets rows n) in
-      rw z (getD-append-add (offsets rows n) (offsetsAt rows n) k 0)
+  -- the offsets of row i: k is 0 or 1
+  below-at : (n i k : ℕ) → i < n → k < 2 → getD (offsetsBelow rows n) (2 * i + k) 0 ≡ getD (offsetsAt rows i) k 0
+  unfolding offsetsBelow
+  below-at zero i k h q = absurd (omega arith)
+  below-at (suc n) i k h q = go (below-at n i k) (ℕ-discrete i n)
+    where
+      go : (i < n → k < 2 → getD (offsetsBelow rows n) (2 * i + k) 0 ≡ getD (offsetsAt rows i) k 0) → Dec (i ≡ n) → getD (offsetsBelow rows n ++ offsetsAt rows n) (2 * i + k) 0 ≡ getD (offsetsAt rows i) k 0
+      go ih (yes e) =
+          let z : 2 * i + k ≡ length (offsetsBelow rows n) + k = omega (arith, length-below rows n) in
+          rw (z, getD-append-add (offsetsBelow rows n) (offsetsAt rows n) k 0) (ap (λ (j : ℕ). getD (offsetsAt rows j) k 0) (sym e))
+      go ih (no p) = List·getD-append (offsetsBelow rows n) (offsetsAt rows n) 0 (2 * i + k) (omega (arith, length-below rows n)) ∙ ih (omega arith) q
 
-  early : (n j : ℕ) → j < 2 * n + 1 → getD (offsets rows (suc n)) j 0 ≡ getD (offsets rows n) j 0
-  unfolding offsets
-  early n j h = List·getD-append (offsets rows n) (offsetsAt rows n) 0 j (omega (arith, length-offsets rows n))
+  early : (n i k : ℕ) → i < n → k < 2 → getD (offsets rows n) (2 * i + k) 0 ≡ getD (offsetsAt rows i) k 0
+  early n i k h q = List·getD-append (offsetsBelow rows n) (startOf heldWidth rows n ∷ []) 0 (2 * i + k) (omega (arith, length-below rows n)) ∙ below-at n i k h q
 
   pub offsets-even : (n i : ℕ) → i ≤ n → getD (offsets rows n) (2 * i) 0 ≡ startOf heldWidth rows i
-  unfolding offsets
-  offsets-even zero i h = let z : i ≡ 0 = omega arith in rw z refl
-  offsets-even (suc n) i h = go (offsets-even n i) (ℕ-discrete i (suc n))
+  offsets-even n i h = go (ℕ-discrete i n)
     where
-      go : (i ≤ n → getD (offsets rows n) (2 * i) 0 ≡ startOf heldWidth rows i) → Dec (i ≡ suc n) → getD (offsets rows (suc n)) (2 * i) 0 ≡ startOf heldWidth rows i
-      go ih (yes e) = late n 1 (2 * i) (omega arith) ∙ ap (startOf heldWidth rows) (sym e)
-      go ih (no q) = early n (2 * i) (omega arith) ∙ ih (omega arith)
+      go : Dec (i ≡ n) → getD (offsets rows n) (2 * i) 0 ≡ startOf heldWidth rows i
+      go (yes e) =
+          let z : 2 * i ≡ length (offsetsBelow rows n) = omega (arith, length-below rows n) in
+          rw (z, getD-append-seam (offsetsBelow rows n) (startOf heldWidth rows n) [] 0) (ap (startOf heldWidth rows) (sym e))
+      go (no p) = let z : 2 * i ≡ 2 * i + 0 = omega arith in ap (λ (j : ℕ). getD (offsets rows n) j 0) z ∙ early n i 0 (omega arith) (omega arith)
 
   pub offsets-odd : (n i : ℕ) → i < n → getD (offsets rows n) (2 * i + 1) 0 ≡ startOf heldWidth rows i + parentsAt rows (i * heldWidth)
-  offsets-odd zero i h = absurd (omega arith)
-  offsets-odd (suc n) i h = go (offsets-odd n i) (ℕ-discrete i n)
-    where
-      go : (i < n → getD (offsets rows n) (2 * i + 1) 0 ≡ startOf heldWidth rows i + parentsAt rows (i * heldWidth)) → Dec (i ≡ n) → getD (offsets rows (suc n)) (2 * i + 1) 0 ≡ startOf heldWidth rows i + parentsAt rows (i * heldWidth)
-      go ih (yes e) = late n 0 (2 * i + 1) (omega arith) ∙ ap (λ (k : ℕ). startOf heldWidth rows k + parentsAt rows (k * heldWidth)) (sym e)
-      go ih (no q) = early n (2 * i + 1) (omega arith) ∙ ih (omega arith)
+  offsets-odd n i h = early n i 1 h (omega arith)
 
 halves : (k : ℕ) → (k ≡ 2 * (k / 2)) ⊎ (k ≡ 2 * (k / 2) + 1)
 halves k = go (ℕ-discrete k (2 * (k / 2)))

@@ -2,19 +2,24 @@
 -- Assumes nothing.
 use mathlib.Core.List.{List, [], _∷_, _++_, map}
 use Prim.Native.Nat.{ℕ, zero, suc, _+_, _*_}
+use lib.ListN.{getD}
 use Rattle.words.specs.Table.{ids, whereIs}
 use Rattle.words.specs.declared.Found.{Found}
 use Rattle.words.specs.declared.Found.the-variants.{At, Nothing}
 use Rattle.rules.specs.Tables.{heldWidth, parentsAt, startOf}
 
--- where the children of row i begin, and where they end
+-- where the parents of row i begin, and where its children begin
 abbrev pub offsetsAt : List ℕ → ℕ → List ℕ
-offsetsAt rows i = (startOf heldWidth rows i + parentsAt rows (i * heldWidth)) ∷ startOf heldWidth rows (suc i) ∷ []
+offsetsAt rows i = startOf heldWidth rows i ∷ (startOf heldWidth rows i + parentsAt rows (i * heldWidth)) ∷ []
 
--- of the first i rows, where parents begin, where children begin, and so on, up to where the last end
-unfoldable pub offsets : List ℕ → ℕ → List ℕ
-offsets rows zero = 0 ∷ []
-offsets rows (suc i) = offsets rows i ++ offsetsAt rows i
+-- those of the first i rows
+unfoldable pub offsetsBelow : List ℕ → ℕ → List ℕ
+offsetsBelow rows zero = []
+offsetsBelow rows (suc i) = offsetsBelow rows i ++ offsetsAt rows i
+
+-- those of n rows, and where the last children end
+abbrev pub offsets : List ℕ → ℕ → List ℕ
+offsets rows n = offsetsBelow rows n ++ (startOf heldWidth rows n ∷ [])
 
 -- the row that was found
 abbrev pub rowOf : Found → ℕ
@@ -26,3 +31,7 @@ nodeNamed rows n id = rowOf (whereIs (ids rows heldWidth n) id)
 
 abbrev pub nodeEdges : List ℕ → ℕ → List ℕ → List ℕ
 nodeEdges rows n edges = map (nodeNamed rows n) edges
+
+-- the id of node k, whose row lies at the front of w
+abbrev pub idIn : List ℕ → ℕ → ℕ
+idIn w k = getD w (k * heldWidth) 0
