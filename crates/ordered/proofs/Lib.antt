@@ -4,3 +4,4 @@ pub mod MapLaws
 pub mod GraphLaws
 pub mod LayLaws
 pub mod LayTurns
+pub mod JudgeLaws
