@@ -3,3 +3,4 @@ pub mod SortLaws
 pub mod RowOrder
 pub mod Sums
 pub mod SortMap
+pub mod SetLaws
