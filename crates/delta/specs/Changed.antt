@@ -1,0 +1,33 @@
+-- The delta of `rules` over segments that ascend by id already: `before` are the ids held before, `ss` the segments of the new layout.
+-- Assumes nothing.
+use Prim.Native.Nat.{ℕ}
+use mathlib.Core.Bool.{Bool, true, false}
+use mathlib.Core.List.{List}
+use lib.ListN.{length}
+use Rattle.lists.specs.Sort.{sorted}
+use Rattle.answers.specs.declared.DagDelta.{DagDelta}
+use Rattle.rules.specs.Model.{Segment, idsOf}
+use Rattle.rules.specs.Delta.{Pair, pairLe, addedFrom, widthsActive, reasonOf}
+use Rattle.delta.specs.Tables.{lacking}
+use Rattle.delta.specs.Pairs.{pairsOf}
+
+unfoldable pub removedFrom : List ℕ → List Segment → List ℕ
+removedFrom before ss = lacking before (idsOf ss)
+
+unfoldable pub splitsFrom : List ℕ → List Segment → List Pair
+splitsFrom before ss = sorted pairLe (pairsOf false before ss)
+
+unfoldable pub mergesFrom : List ℕ → List Segment → List Pair
+mergesFrom before ss = sorted pairLe (pairsOf true before ss)
+
+unfoldable pub deltaFrom : ℕ → List ℕ → List Segment → DagDelta
+deltaFrom epoch before ss =
+    record {
+      epoch = epoch;
+      added = length (addedFrom before ss);
+      removed = length (removedFrom before ss);
+      splits = length (splitsFrom before ss);
+      merges = length (mergesFrom before ss);
+      reason = reasonOf (length (splitsFrom before ss)) (length (mergesFrom before ss)) (length (removedFrom before ss));
+      handover = widthsActive (addedFrom before ss);
+    }
