@@ -1,6 +1,6 @@
 -- The pairs of all rows: those of the rows passed stand from word `at` on, and there are no more of them than edge words passed.
 --     pairs-append, pairs-one     the pairs of rows one behind the other, and of one row
---     gathered-start, gathered-next, gathered-end     the loop over the rows
+--     gathered-start, gathered-next, gathered-end, gathered-few     the loop over the rows
 -- Assumes nothing.
 use Prim.Native.Nat.{ℕ, zero, suc, _+_, _-_, _*_, _≤_, _<_, _^_, zero-le}
 use native.Mathlib.Numerals.{add-one}
@@ -81,11 +81,12 @@ row-few merge u child l = go (has child u)
 pub record Gathered (merge : Bool) (u w₀ w : List ℕ) (n e at from k i : ℕ) : Type 0 where
   pub here : from ≡ n * heldWidth + startOf heldWidth (imageRows w₀ n) i
   pub few : k ≤ startOf heldWidth (imageRows w₀ n) i
+  pub within : startOf heldWidth (imageRows w₀ n) i ≤ e
   pub placed : Placed w₀ w at 0 k (pairsOf merge u (take i (imageSegments w₀ n e)))
 
 pub gathered-start : (merge : Bool) (u w : List ℕ) (n e at : ℕ) → Gathered merge u w w n e at (n * heldWidth) 0 0
 unfolding pairsOf addedFrom pairsFrom
-gathered-start merge u w n e at = record { here = omega arith; few = zero-le; placed = placed-none w at 0 0 _ refl refl }
+gathered-start merge u w n e at = record { here = omega arith; few = zero-le; within = zero-le; placed = placed-none w at 0 0 _ refl refl }
 
 module _ (merge : Bool) (u w₀ w : List ℕ) (n e at from k i : ℕ) (p : Gathered merge u w₀ w n e at from k i) (image : Image w₀ n e)
     (room : n * heldWidth + e ≤ at) (fits : at + 3 * e ≤ length w₀) where
@@ -152,9 +153,13 @@ module _ (merge : Bool) (u w₀ w : List ℕ) (n e at from k i : ℕ) (p : Gathe
         record {
           here = omega (arith, p .here, next);
           few = omega (arith, p .few, q .count, few, next);
+          within = omega (arith, edges-room, next);
           placed = rw pairs (placed-then w₀ w w′ at 0 k r _ _ (p .placed) q′);
         }
 
   pub gathered-end : n ≤ i → Placed w₀ w at 0 k (pairsOf merge u (imageSegments w₀ n e))
   gathered-end h =
       let all : take i (imageSegments w₀ n e) ≡ imageSegments w₀ n e = take-all i (imageSegments w₀ n e) (rw (segments-length R E n 0 0) h) in rw all at (p .placed)
+
+  pub gathered-few : k ≤ e
+  gathered-few = omega (arith, p .few, p .within)

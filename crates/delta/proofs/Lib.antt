@@ -3,3 +3,4 @@ pub mod Summed
 pub mod Kept
 pub mod Placing
 pub mod Gathered
+pub mod Sorting

@@ -6,11 +6,14 @@ ghost use mathlib.Core.List.{[], _∷_, map};
 ghost use Prim.Native.Nat.{_+_, _*_, _<_, _≤_};
 ghost use lib.ListN.{length, take};
 ghost use Rattle.lists.specs.Lists.{front};
+ghost use Rattle.lists.specs.Sort.{sorted};
 ghost use Rattle.words.specs.Part.{part};
+ghost use Rattle.sorts.specs.Rows.{rows};
+ghost use Rattle.rules.specs.Delta.{pairLe, pairWords};
 ghost use Rattle.rules.specs.Tables.{heldWidth};
 ghost use Rattle.tabled.specs.Image.{Image, imageSegments};
 ghost use Rattle.delta.specs.Tables.{Rows, idsIn, known};
-ghost use Rattle.delta.specs.Pairs.{pairOf, wanted, rowPairs, pairsOf, Placed};
+ghost use Rattle.delta.specs.Pairs.{pairOf, wanted, rowPairs, pairsOf, Placed, twoWords};
 
 // The pair of a child and a parent, as row k from word `at` on.
 fn place_pair(w: &mut [u64], at: usize, k: usize, merge: bool, child: u64, parent: u64)
@@ -143,6 +146,7 @@ fn place_pairs(
     requires { ⌜ at + 3 * e ≤ length (now w) ⌝ }
     requires { ⌜ Rows (now old) h ⌝ }
     ensures { λ r. ⌜ Placed (now (w .entry)) (now (w .exit)) at 0 r (pairsOf merge (idsIn (now (old .entry)) h) (imageSegments (now (w .entry)) n e)) ⌝ }
+    ensures { λ r. ⌜ r ≤ e ⌝ }
 {
     let mut from = n * rules::HELD;
     let mut k = 0;
@@ -156,5 +160,48 @@ fn place_pairs(
         from += count + children;
         i += 1;
     }
+    k
+}
+
+// The first two words of each of the k rows, at the front of out.
+fn copy_pairs(out: &mut [u64], pairs: &[u64], k: usize)
+    requires { ⌜ length (now pairs) ≡ 3 * k ⌝ }
+    requires { ⌜ 2 * k ≤ length (now out) ⌝ }
+    ensures { λ _. ⌜ now (out .exit) ≡ front (twoWords (rows (now (pairs .entry)))) (now (out .entry)) ⌝ }
+{
+    let mut i = 0;
+    while i < k {
+        let x = pairs[3 * i];
+        let y = pairs[3 * i + 1];
+        out[2 * i] = x;
+        out[2 * i + 1] = y;
+        i += 1;
+    }
+}
+
+// The pairs of one kind, ascending, at the front of out; how many they are. The words before `at` stay.
+fn write_pairs(
+    w: &mut [u64],
+    n: usize,
+    e: usize,
+    at: usize,
+    merge: bool,
+    old: &[u64],
+    h: usize,
+    out: &mut [u64],
+) -> usize
+    requires { ⌜ Image (now w) n e ⌝ }
+    requires { ⌜ n * heldWidth + e ≤ at ⌝ }
+    requires { ⌜ at + 3 * e ≤ length (now w) ⌝ }
+    requires { ⌜ Rows (now old) h ⌝ }
+    requires { ⌜ 2 * e ≤ length (now out) ⌝ }
+    ensures { λ r. ⌜ r ≡ length (sorted pairLe (pairsOf merge (idsIn (now (old .entry)) h) (imageSegments (now (w .entry)) n e))) ⌝ }
+    ensures { λ r. ⌜ now (out .exit) ≡ front (pairWords (sorted pairLe (pairsOf merge (idsIn (now (old .entry)) h) (imageSegments (now (w .entry)) n e)))) (now (out .entry)) ⌝ }
+    ensures { λ r. ⌜ take at (now (w .exit)) ≡ take at (now (w .entry)) ⌝ }
+{
+    let k = place_pairs(w, n, e, at, merge, old, h);
+    let end = at + 3 * k;
+    sorts::sort3(&mut w[at..end], k);
+    copy_pairs(out, &w[at..end], k);
     k
 }

@@ -2,7 +2,7 @@
 -- Assumes nothing.
 use Prim.Native.Nat.{_≤_, _-_}
 use Rattle.delta.specs.Tables.{idsIn}
-use Rattle.delta.proofs.Gathered.{Gathered, gathered-start, parents-before, pairs-room, counts-fit, from-fits, gathered-next, gathered-end}
+use Rattle.delta.proofs.Gathered.{Gathered, gathered-start, parents-before, pairs-room, counts-fit, from-fits, gathered-next, gathered-end, gathered-few}
 use borrow.Author.Needs.{needs}
 use Rattle.delta.proofs.pairs.place_pairs.Statement.{statement}
 use Rattle.delta.proofs.pairs.place_pairs.Tie as tie
@@ -68,7 +68,7 @@ same-length : tie.Need-same-length Inv-loop μ-loop
 same-length c = search needs
 
 returns : tie.Need-returns Inv-loop μ-loop
-returns c = search gathered-end
+returns c = (search gathered-end, search gathered-few)
 
 pub place-pairs-spec : {M : Type 1} → statement M
 place-pairs-spec =
