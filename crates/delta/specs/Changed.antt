@@ -1,24 +1,24 @@
 -- The delta of `rules` over segments that ascend by id already: `before` are the ids held before, `ss` the segments of the new layout.
 -- Assumes nothing.
 use Prim.Native.Nat.{ℕ}
-use mathlib.Core.Bool.{Bool, true, false}
+use mathlib.Core.Bool.{not}
 use mathlib.Core.List.{List}
 use lib.ListN.{length}
+use Rattle.lists.specs.Lists.{has}
+use Rattle.lists.specs.Sets.{keep}
 use Rattle.lists.specs.Sort.{sorted}
 use Rattle.answers.specs.declared.DagDelta.{DagDelta}
 use Rattle.rules.specs.Model.{Segment, idsOf}
-use Rattle.rules.specs.Delta.{Pair, pairLe, addedFrom, widthsActive, reasonOf}
-use Rattle.delta.specs.Tables.{lacking}
-use Rattle.delta.specs.Pairs.{pairsOf}
+use Rattle.rules.specs.Delta.{Pair, pairLe, addedFrom, splitsOf, mergesOf, pairsFrom, widthsActive, reasonOf}
 
 unfoldable pub removedFrom : List ℕ → List Segment → List ℕ
-removedFrom before ss = lacking before (idsOf ss)
+removedFrom before ss = keep (λ (x : ℕ). not (has x (idsOf ss))) before
 
 unfoldable pub splitsFrom : List ℕ → List Segment → List Pair
-splitsFrom before ss = sorted pairLe (pairsOf false before ss)
+splitsFrom before ss = sorted pairLe (pairsFrom splitsOf before (addedFrom before ss))
 
 unfoldable pub mergesFrom : List ℕ → List Segment → List Pair
-mergesFrom before ss = sorted pairLe (pairsOf true before ss)
+mergesFrom before ss = sorted pairLe (pairsFrom mergesOf before (addedFrom before ss))
 
 unfoldable pub deltaFrom : ℕ → List ℕ → List Segment → DagDelta
 deltaFrom epoch before ss =

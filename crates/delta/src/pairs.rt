@@ -14,6 +14,7 @@ ghost use Rattle.rules.specs.Tables.{heldWidth};
 ghost use Rattle.tabled.specs.Image.{Image, imageSegments};
 ghost use Rattle.delta.specs.Tables.{Rows, idsIn, known};
 ghost use Rattle.delta.specs.Pairs.{pairOf, wanted, rowPairs, pairsOf, Placed, twoWords};
+ghost use Rattle.delta.specs.Changed.{splitsFrom, mergesFrom};
 
 // The pair of a child and a parent, as row k from word `at` on.
 fn place_pair(w: &mut [u64], at: usize, k: usize, merge: bool, child: u64, parent: u64)
@@ -204,4 +205,48 @@ fn write_pairs(
     sorts::sort3(&mut w[at..end], k);
     copy_pairs(out, &w[at..end], k);
     k
+}
+
+// The split pairs, ascending, at the front of splits; how many they are. The words before `at` stay.
+pub fn write_splits(
+    w: &mut [u64],
+    n: usize,
+    e: usize,
+    at: usize,
+    old: &[u64],
+    h: usize,
+    splits: &mut [u64],
+) -> usize
+    requires { ⌜ Image (now w) n e ⌝ }
+    requires { ⌜ n * heldWidth + e ≤ at ⌝ }
+    requires { ⌜ at + 3 * e ≤ length (now w) ⌝ }
+    requires { ⌜ Rows (now old) h ⌝ }
+    requires { ⌜ 2 * e ≤ length (now splits) ⌝ }
+    ensures { λ r. ⌜ r ≡ length (splitsFrom (idsIn (now (old .entry)) h) (imageSegments (now (w .entry)) n e)) ⌝ }
+    ensures { λ r. ⌜ now (splits .exit) ≡ front (pairWords (splitsFrom (idsIn (now (old .entry)) h) (imageSegments (now (w .entry)) n e))) (now (splits .entry)) ⌝ }
+    ensures { λ r. ⌜ take at (now (w .exit)) ≡ take at (now (w .entry)) ⌝ }
+{
+    write_pairs(w, n, e, at, false, old, h, splits)
+}
+
+// The merge pairs, ascending, at the front of merges; how many they are. The words before `at` stay.
+pub fn write_merges(
+    w: &mut [u64],
+    n: usize,
+    e: usize,
+    at: usize,
+    old: &[u64],
+    h: usize,
+    merges: &mut [u64],
+) -> usize
+    requires { ⌜ Image (now w) n e ⌝ }
+    requires { ⌜ n * heldWidth + e ≤ at ⌝ }
+    requires { ⌜ at + 3 * e ≤ length (now w) ⌝ }
+    requires { ⌜ Rows (now old) h ⌝ }
+    requires { ⌜ 2 * e ≤ length (now merges) ⌝ }
+    ensures { λ r. ⌜ r ≡ length (mergesFrom (idsIn (now (old .entry)) h) (imageSegments (now (w .entry)) n e)) ⌝ }
+    ensures { λ r. ⌜ now (merges .exit) ≡ front (pairWords (mergesFrom (idsIn (now (old .entry)) h) (imageSegments (now (w .entry)) n e))) (now (merges .entry)) ⌝ }
+    ensures { λ r. ⌜ take at (now (w .exit)) ≡ take at (now (w .entry)) ⌝ }
+{
+    write_pairs(w, n, e, at, true, old, h, merges)
 }
