@@ -4,3 +4,4 @@ pub mod Kept
 pub mod Placing
 pub mod Gathered
 pub mod Sorting
+pub mod Told

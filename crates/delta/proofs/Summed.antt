@@ -1,5 +1,5 @@
 -- Handover summed row by row: what was summed and what the rows to come add is all of it, and no sum goes above that of all Active rows.
---     widths-any, handed-few     widths do not see the edges; what is handed over is no more than all
+--     handed-any, widths-any, handed-few     widths do not see the edges; what is handed over is no more than all
 --     summed-start, summed-next, summed-end     the loop
 -- Assumes nothing.
 use Prim.Native.Nat.{ℕ, zero, suc, _+_, _-_, _*_, _≤_, _<_}
@@ -94,7 +94,7 @@ handed-all ss = ap widthsActive (all ss)
 
 module _ (before rows : List ℕ) where
   -- only heads count
-  handed-any : (edges links : List ℕ) (n i a b : ℕ) → handed before (segmentsFrom heldWidth rows edges n i a) ≡ handed before (segmentsFrom heldWidth rows links n i b)
+  pub handed-any : (edges links : List ℕ) (n i a b : ℕ) → handed before (segmentsFrom heldWidth rows edges n i a) ≡ handed before (segmentsFrom heldWidth rows links n i b)
   handed-any edges links zero i a b = refl
   handed-any edges links (suc n) i a b =
       let w : ℕ = i * heldWidth in
