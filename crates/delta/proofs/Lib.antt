@@ -5,3 +5,4 @@ pub mod Placing
 pub mod Gathered
 pub mod Sorting
 pub mod Told
+pub mod Ruled
