@@ -2,23 +2,23 @@
 --     pairs-append, pairs-one     the pairs of rows one behind the other, and of one row
 --     gathered-start, gathered-next, gathered-end, gathered-few     the loop over the rows
 -- Assumes nothing.
-use Prim.Native.Nat.{ℕ, zero, suc, _+_, _-_, _*_, _≤_, _<_, _^_, zero-le}
+use Prim.Native.Nat.{ℕ, _+_, _-_, _*_, _≤_, _<_, _^_, zero-le}
 use native.Mathlib.Numerals.{add-one}
 use native.Mathlib.Nat.{zero-add}
 use native.Mathlib.Omega.{arith}
 use mathlib.Core.Path.{_≡_, refl, sym, ap, _∙_}
 use mathlib.Core.Bool.{Bool, true, false, cond}
-use mathlib.Core.List.{List, [], _∷_, _++_, map, append-assoc, append-nil}
+use mathlib.Core.List.{List, [], _∷_, _++_, append-assoc, append-nil}
 use mir.Val.{Fits}
 use mir.Syntax.{w64}
-use lib.ListN.{length, getD, take, drop, length-map}
+use lib.ListN.{length, getD, take, length-map}
 use lib.Seq.{take-suc, take-all}
 use Rattle.lists.specs.Lists.{has}
 use Rattle.words.specs.Part.{part}
-use Rattle.words.proofs.PartLaws.{part-in, part-at, part-length, part-as}
+use Rattle.words.proofs.PartLaws.{part-in, part-at, part-length}
 use Rattle.rules.specs.Model.{Segment}
-use Rattle.rules.specs.Tables.{heldWidth, stretch, parentsAt, childrenAt, startOf}
-use Rattle.rules.specs.Delta.{Pair, addedFrom, pairsFrom, knownParents, splitsOf, mergesOf}
+use Rattle.rules.specs.Tables.{heldWidth, stretch, parentsAt, startOf}
+use Rattle.rules.specs.Delta.{Pair, addedFrom, pairsFrom, knownParents}
 use Rattle.rules.proofs.Places.{start-next, start-room}
 use Rattle.tabled.specs.Image.{Image, segmentIn, imageRows, imageEdges, imageSegments}
 use Rattle.tabled.proofs.ByRow.{segments-length, segments-at}
@@ -54,9 +54,9 @@ module _ (merge : Bool) (u : List ℕ) where
   unfolding pairsOf rowPairs addedFrom pairsFrom known
   pairs-one s = go (has (s .head .id) u)
     where
-      go : (b : Bool) → pairsFrom (kindOf merge) u (cond b [] (s ∷ [])) ≡ cond b [] (kindOf merge (s .head .id) (known u (s .parents)))
+      go : (b : Bool) → pairsFrom (kindOf merge) u (cond b [] (s ∷ [])) ≡ cond b [] (kindOf merge (s .head .id) (known (s .parents) u))
       go true = refl
-      go false = append-nil (kindOf merge (s .head .id) (known u (s .parents)))
+      go false = append-nil (kindOf merge (s .head .id) (known (s .parents) u))
 
 -- a kind makes no more pairs than there are parents
 kind-few : (merge : Bool) (child : ℕ) (l : List ℕ) → length (kindOf merge child l) ≤ length l
@@ -71,9 +71,9 @@ row-few : (merge : Bool) (u : List ℕ) (child : ℕ) (l : List ℕ) → length 
 unfolding rowPairs
 row-few merge u child l = go (has child u)
   where
-    go : (b : Bool) → length (cond b [] (kindOf merge child (known u l))) ≤ length l
+    go : (b : Bool) → length (cond b [] (kindOf merge child (known l u))) ≤ length l
     go true = zero-le
-    go false = omega (arith, kind-few merge child (known u l), known-few u l)
+    go false = omega (arith, kind-few merge child (known l u), known-few u l)
 
 -- ---- the loop
 

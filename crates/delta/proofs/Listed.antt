@@ -2,15 +2,15 @@
 --     has-found      `has` and the search agree
 --     listed-start, listed-next, listed-end     the loop that lists them
 -- Assumes nothing.
-use Prim.Native.Nat.{ℕ, zero, suc, _+_, _*_, _≤_, _<_}
+use Prim.Native.Nat.{ℕ, suc, _+_, _*_, _≤_, _<_}
 use native.Mathlib.Numerals.{add-one}
 use native.Mathlib.Omega.{arith}
 use mathlib.Core.Path.{_≡_, refl, sym, ap, _∙_}
 use mathlib.Core.Bool.{Bool, true, false, not, cond, _||_}
 use mathlib.Core.List.{List, [], _∷_, _++_, append-assoc}
 use lib.Dec.{eqb}
-use lib.ListN.{length, getD, take, drop, set, length-append, length-take}
-use lib.Seq.{take-suc, take-all, drop-drop, drop-at, take-at, set-split, drop-cons, length-take-le}
+use lib.ListN.{length, getD, take, drop, set, length-append}
+use lib.Seq.{take-suc, take-all, drop-drop, drop-at, take-at, set-split}
 use Rattle.lists.specs.Lists.{has, front}
 use Rattle.lists.specs.Sets.{keep}
 use Rattle.lists.proofs.SetLaws.{keep-shorter}
@@ -21,7 +21,7 @@ use Rattle.words.specs.Table.{ids, whereFrom, whereIs}
 use Rattle.words.specs.declared.Found.{Found}
 use Rattle.words.specs.declared.Found.the-variants.{At, Nothing}
 use Rattle.words.proofs.TableLaws.{length-ids, ids-at}
-use Rattle.delta.specs.Tables.{lacking, known, idsIn}
+use Rattle.delta.specs.Tables.{lacking, idsIn}
 
 -- ---- the search
 

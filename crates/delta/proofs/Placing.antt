@@ -1,15 +1,12 @@
 -- Pairs placed in the work area: what is placed behind what is placed is placed (`placed-then`), so that the pairs of a list of parents,
 -- and of a row, stand one behind the other.
 -- Assumes nothing.
-use Prim.Native.Nat.{ℕ, zero, suc, _+_, _-_, _*_, _≤_, _<_}
+use Prim.Native.Nat.{ℕ, suc, _+_, _-_, _*_, _≤_, _<_}
 use native.Mathlib.Numerals.{add-one}
-use native.Mathlib.Nat.{add-zero}
 use native.Mathlib.Omega.{arith}
 use mathlib.Core.Path.{_≡_, refl, sym, ap, _∙_}
-use mathlib.Core.Bool.{Bool, true, false, not, cond}
+use mathlib.Core.Bool.{Bool, true, false}
 use mathlib.Core.List.{List, [], _∷_, _++_, map, map-append, append-assoc, append-nil}
-use mir.Val.{Fits}
-use mir.Syntax.{w64}
 use borrow.Author.Tests.{eqb-true, ltb-false}
 use lib.Dec.{eqb, ltb}
 use lib.ListN.{length, getD, take, drop, set, length-append, length-map, length-drop}
@@ -22,7 +19,7 @@ use Rattle.words.specs.Part.{part, put}
 use Rattle.words.proofs.PartLaws.{Loan, loan, part-as, part-length, part-at}
 use Rattle.sorts.specs.Rows.{rows}
 use Rattle.sorts.proofs.RowLaws.{le-rows}
-use Rattle.rules.specs.Delta.{Pair, splitsOf, mergesOf}
+use Rattle.rules.specs.Delta.{Pair}
 use Rattle.delta.specs.Tables.{known}
 use Rattle.delta.specs.Pairs.{kindOf, wanted, pairOf, rowPairs, rowOf, rowsAt, Placed}
 use Rattle.delta.proofs.Listed.{keep-append}
@@ -78,80 +75,80 @@ module _ (w ys : List ℕ) (at k child parent : ℕ) (merge : Bool) (room : at +
 
 -- ---- one parent
 
-known-append : (u a b : List ℕ) → known u (a ++ b) ≡ known u a ++ known u b
+known-append : (u a b : List ℕ) → known (a ++ b) u ≡ known a u ++ known b u
 unfolding known
 known-append u a b = keep-append (λ (x : ℕ). has x u) a b
 
-pub known-few : (u a : List ℕ) → length (known u a) ≤ length a
+pub known-few : (u a : List ℕ) → length (known a u) ≤ length a
 unfolding known
 known-few u a = keep-shorter (λ (x : ℕ). has x u) a
 
 module _ (u : List ℕ) (parent : ℕ) (b : Bool) (said : b ≡ has parent u) where
-  unknown : b ≡ false → known u (parent ∷ []) ≡ []
+  unknown : b ≡ false → known (parent ∷ []) u ≡ []
   unfolding known keep
   unknown told = rw (sym said ∙ told) refl
 
-  is-known : b ≡ true → known u (parent ∷ []) ≡ parent ∷ []
+  is-known : b ≡ true → known (parent ∷ []) u ≡ parent ∷ []
   unfolding known keep
   is-known told = rw (sym said ∙ told) refl
 
   module _ (w : List ℕ) (at k child : ℕ) (merge : Bool) where
-    pub parent-skip : b ≡ false → Placed w w at k k (map (pairOf merge child) (known u (parent ∷ [])))
+    pub parent-skip : b ≡ false → Placed w w at k k (map (pairOf merge child) (known (parent ∷ []) u))
     parent-skip told = placed-none w at k k _ refl (ap (map (pairOf merge child)) (unknown told))
 
     pub parent-put : b ≡ true → (w′ : List ℕ) → Placed w w′ at k (k + 1) (pairOf merge child parent ∷ [])
-        → Placed w w′ at k (k + 1) (map (pairOf merge child) (known u (parent ∷ [])))
+        → Placed w w′ at k (k + 1) (map (pairOf merge child) (known (parent ∷ []) u))
     parent-put told w′ p = rw (is-known told) p
 
 -- ---- the parents of a child
 
-known-more : (u l : List ℕ) (j : ℕ) → j < length l → known u (take (j + 1) l) ≡ known u (take j l) ++ known u (getD l j 0 ∷ [])
+known-more : (u l : List ℕ) (j : ℕ) → j < length l → known (take (j + 1) l) u ≡ known (take j l) u ++ known (getD l j 0 ∷ []) u
 known-more u l j h = rw (add-one j, take-suc l j 0 h) (known-append u (take j l) (getD l j 0 ∷ []))
 
-pub parents-start : (u w : List ℕ) (from count at k child : ℕ) (merge : Bool) → Placed w w at k k (map (pairOf merge child) (known u (take 0 (part w from count))))
+pub parents-start : (u w : List ℕ) (from count at k child : ℕ) (merge : Bool) → Placed w w at k k (map (pairOf merge child) (known (take 0 (part w from count)) u))
 unfolding known keep
 parents-start u w from count at k child merge = placed-none w at k k _ refl refl
 
 module _ (u w₀ w : List ℕ) (from count at k r j child : ℕ) (merge : Bool) (room : from + count ≤ at) (fits : at + 3 * (k + count) ≤ length w₀)
-    (p : Placed w₀ w at k r (map (pairOf merge child) (known u (take j (part w₀ from count))))) where
+    (p : Placed w₀ w at k r (map (pairOf merge child) (known (take j (part w₀ from count)) u))) where
   module _ (below : j < count) where
     pub parents-room : at + 3 * (r + 1) ≤ length w
     parents-room =
         let l : List ℕ = take j (part w₀ from count) in
         let few : length l ≤ j = omega (arith, length-take-le j (part w₀ from count) (omega (arith, part-length w₀ from count (omega arith)))) in
-        omega (arith, p .count, p .size, known-few u l, length-map (known u l) (pairOf merge child))
+        omega (arith, p .count, p .size, known-few u l, length-map (known l u) (pairOf merge child))
 
-    pub parents-next : (w′ : List ℕ) (s : ℕ) → Placed w w′ at r s (map (pairOf merge child) (known u (getD w (from + j) 0 ∷ [])))
-        → Placed w₀ w′ at k s (map (pairOf merge child) (known u (take (j + 1) (part w₀ from count))))
+    pub parents-next : (w′ : List ℕ) (s : ℕ) → Placed w w′ at r s (map (pairOf merge child) (known (getD w (from + j) 0 ∷ []) u))
+        → Placed w₀ w′ at k s (map (pairOf merge child) (known (take (j + 1) (part w₀ from count)) u))
     parents-next w′ s q =
         let l : List ℕ = part w₀ from count in
         let n : j < length l = rw (part-length w₀ from count (omega arith)) below in
         let x : getD w (from + j) 0 ≡ getD l j 0 = before-at w₀ w at (p .kept) (from + j) (omega arith) ∙ sym (part-at w₀ from count j below) in
-        let more : known u (take (j + 1) l) ≡ known u (take j l) ++ known u (getD w (from + j) 0 ∷ []) = rw x (known-more u l j n) in
-        let all : map (pairOf merge child) (known u (take (j + 1) l)) ≡ map (pairOf merge child) (known u (take j l)) ++ map (pairOf merge child) (known u (getD w (from + j) 0 ∷ [])) =
-        ap (map (pairOf merge child)) more ∙ map-append (pairOf merge child) (known u (take j l)) (known u (getD w (from + j) 0 ∷ [])) in
+        let more : known (take (j + 1) l) u ≡ known (take j l) u ++ known (getD w (from + j) 0 ∷ []) u = rw x (known-more u l j n) in
+        let all : map (pairOf merge child) (known (take (j + 1) l) u) ≡ map (pairOf merge child) (known (take j l) u) ++ map (pairOf merge child) (known (getD w (from + j) 0 ∷ []) u) =
+        ap (map (pairOf merge child)) more ∙ map-append (pairOf merge child) (known (take j l) u) (known (getD w (from + j) 0 ∷ []) u) in
         rw all (placed-then w₀ w w′ at k r s _ _ p q)
 
-  pub parents-end : count ≤ j → Placed w₀ w at k r (map (pairOf merge child) (known u (part w₀ from count)))
+  pub parents-end : count ≤ j → Placed w₀ w at k r (map (pairOf merge child) (known (part w₀ from count) u))
   parents-end h =
       let e : take j (part w₀ from count) ≡ part w₀ from count = take-all j (part w₀ from count) (rw (part-length w₀ from count (omega arith)) h) in rw e at p
 
 -- ---- how many were held
 
-pub count-start : (u list : List ℕ) → 0 ≡ length (known u (take 0 list))
+pub count-start : (u list : List ℕ) → 0 ≡ length (known (take 0 list) u)
 unfolding known keep
 count-start u list = refl
 
-module _ (u list : List ℕ) (held j : ℕ) (e : held ≡ length (known u (take j list))) where
+module _ (u list : List ℕ) (held j : ℕ) (e : held ≡ length (known (take j list) u)) where
   module _ (below : j < length list) (b : Bool) (said : b ≡ has (getD list j 0) u) where
-    pub count-hit : b ≡ true → (now : ℕ) → now ≡ held + 1 → now ≡ length (known u (take (j + 1) list))
-    count-hit told now v = rw (known-more u list j below, length-append (known u (take j list)), is-known u (getD list j 0) b said told) (omega arith)
+    pub count-hit : b ≡ true → (now : ℕ) → now ≡ held + 1 → now ≡ length (known (take (j + 1) list) u)
+    count-hit told now v = rw (known-more u list j below, length-append (known (take j list) u), is-known u (getD list j 0) b said told) (omega arith)
 
-    pub count-miss : b ≡ false → (now : ℕ) → now ≡ held → now ≡ length (known u (take (j + 1) list))
-    count-miss told now v = rw (known-more u list j below, length-append (known u (take j list)), unknown u (getD list j 0) b said told) (omega arith)
+    pub count-miss : b ≡ false → (now : ℕ) → now ≡ held → now ≡ length (known (take (j + 1) list) u)
+    count-miss told now v = rw (known-more u list j below, length-append (known (take j list) u), unknown u (getD list j 0) b said told) (omega arith)
 
-  pub count-end : length list ≤ j → held ≡ length (known u list)
-  count-end h = e ∙ ap (λ (l : List ℕ). length (known u l)) (take-all j list h)
+  pub count-end : length list ≤ j → held ≡ length (known list u)
+  count-end h = e ∙ ap (λ (l : List ℕ). length (known l u)) (take-all j list h)
 
 -- ---- a child
 
@@ -184,15 +181,15 @@ module _ (u w : List ℕ) (from count at k child : ℕ) (merge b : Bool) (said :
   unfolding rowPairs
   child-held told = placed-none w at k k _ refl (rw (sym said ∙ told) refl)
 
-  module _ (held : ℕ) (c : Bool) (counted : held ≡ length (known u (part w from (from + count - from)))) (asked : c ≡ wanted merge held) where
-    is-wanted : wanted merge (length (known u (part w from count))) ≡ c
-    is-wanted = sym (asked ∙ ap (wanted merge) (counted ∙ ap (λ (l : List ℕ). length (known u l)) (part-as w from (from + count) count refl)))
+  module _ (held : ℕ) (c : Bool) (counted : held ≡ length (known (part w from (from + count - from)) u)) (asked : c ≡ wanted merge held) where
+    is-wanted : wanted merge (length (known (part w from count) u)) ≡ c
+    is-wanted = sym (asked ∙ ap (wanted merge) (counted ∙ ap (λ (l : List ℕ). length (known l u)) (part-as w from (from + count) count refl)))
 
     pub child-unwanted : b ≡ false → c ≡ false → Placed w w at k k (rowPairs merge u child (part w from count))
     unfolding rowPairs
-    child-unwanted told n = placed-none w at k k _ refl (rw (sym said ∙ told) (kind-none merge child (known u (part w from count)) (is-wanted ∙ n)))
+    child-unwanted told n = placed-none w at k k _ refl (rw (sym said ∙ told) (kind-none merge child (known (part w from count) u) (is-wanted ∙ n)))
 
-    pub child-wanted : b ≡ false → c ≡ true → (w′ : List ℕ) (r : ℕ) → Placed w w′ at k r (map (pairOf merge child) (known u (part w from count)))
+    pub child-wanted : b ≡ false → c ≡ true → (w′ : List ℕ) (r : ℕ) → Placed w w′ at k r (map (pairOf merge child) (known (part w from count) u))
         → Placed w w′ at k r (rowPairs merge u child (part w from count))
     unfolding rowPairs
-    child-wanted told y w′ r p = rw (sym said ∙ told, kind-all merge child (known u (part w from count)) (is-wanted ∙ y)) p
+    child-wanted told y w′ r p = rw (sym said ∙ told, kind-all merge child (known (part w from count) u) (is-wanted ∙ y)) p

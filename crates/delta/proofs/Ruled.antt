@@ -4,20 +4,16 @@
 -- Assumes nothing.
 use Prim.Native.Nat.{ℕ, _+_, _-_, _≤_}
 use native.Mathlib.Omega.{arith}
-use mathlib.Core.Path.{_≡_, refl, sym, ap, _∙_}
+use mathlib.Core.Path.{_≡_, refl, ap}
 use mathlib.Core.Bool.{Bool, true, false, not, cond}
 use mathlib.Core.List.{List, [], _∷_}
 use lib.Dec.{eqb}
-use lib.ListN.{length}
-use Rattle.lists.specs.Lists.{has, front}
-use Rattle.lists.specs.Sets.{keep}
-use Rattle.lists.specs.Sort.{Row}
+use Rattle.lists.specs.Lists.{has}
 use Rattle.lists.proofs.SetLaws.{keep-same}
-use Rattle.answers.specs.declared.DagDelta.{DagDelta}
 use Rattle.answers.specs.declared.Judged.the-variants.{Accepted}
 use Rattle.rules.specs.Model.{Segment, idsOf, byId}
 use Rattle.rules.specs.Tiling.{widths, rangeOf, activeOf, coverageRule}
-use Rattle.rules.specs.Delta.{addedFrom, addedOf, removedOf, splitPairs, mergePairs, pairWords, widthsActive, handoverOf, reasonOf, deltaOf}
+use Rattle.rules.specs.Delta.{addedOf, removedOf, splitPairs, mergePairs, widthsActive, handoverOf, deltaOf}
 use Rattle.rules.specs.Update.{Changes, changed}
 use Rattle.rules.proofs.Ascended.{has-byId}
 use Rattle.rules.proofs.Covered.{covered-widths}

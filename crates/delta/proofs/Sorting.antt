@@ -22,7 +22,7 @@ use Rattle.sorts.specs.Rows.{rows}
 use Rattle.sorts.specs.Heap.{row0}
 use Rattle.sorts.proofs.RowLaws.{rows-at, rows-length}
 use Rattle.rules.specs.Delta.{Pair, pairLe, pairWords}
-use Rattle.delta.specs.Pairs.{rowOf, rowsAt, Placed, twoWords}
+use Rattle.delta.specs.Pairs.{rowOf, Placed, twoWords}
 
 -- ---- two orders
 

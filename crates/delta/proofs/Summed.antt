@@ -12,7 +12,7 @@ use mir.Val.{Fits}
 use mir.Syntax.{w64}
 use borrow.Author.Tests.{eq-eqb, ne-eqb}
 use lib.Dec.{eqb}
-use lib.ListN.{length, getD}
+use lib.ListN.{getD}
 use Rattle.lists.specs.Lists.{has}
 use Rattle.rules.specs.Model.{Head, Segment}
 use Rattle.rules.specs.Tables.{heldWidth, headAt, parentsAt, childrenAt, segmentAt, segmentsFrom}

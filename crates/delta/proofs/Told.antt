@@ -9,17 +9,16 @@ use native.Mathlib.Nat.{sub-zero}
 use native.Mathlib.Omega.{arith}
 use mathlib.Core.Path.{_≡_, refl, sym, ap, _∙_}
 use mathlib.Core.Bool.{Bool, true, false, not, cond}
-use mathlib.Core.List.{List, [], _∷_, map}
-use lib.ListN.{length, take, drop, length-map}
+use mathlib.Core.List.{List, [], _∷_}
+use lib.ListN.{length, take, length-map}
 use Rattle.lists.specs.Lists.{has, front}
 use Rattle.lists.specs.Sets.{keep}
 use Rattle.words.specs.Part.{part}
-use Rattle.words.proofs.PartLaws.{part-length}
 use Rattle.answers.specs.declared.DagChangeReason.{DagChangeReason}
 use Rattle.answers.specs.declared.DagDelta.{DagDelta}
 use Rattle.rules.specs.Model.{Segment, idOf, idsOf}
 use Rattle.rules.specs.Tables.{heldWidth}
-use Rattle.rules.specs.Delta.{Pair, addedFrom, pairWords, widthsActive, reasonOf}
+use Rattle.rules.specs.Delta.{addedFrom, pairWords, widthsActive, reasonOf}
 use Rattle.tabled.specs.Image.{Image, imageRows, imageEdges, imageSegments}
 use Rattle.tabled.proofs.ByRow.{ids-segments}
 use Rattle.delta.specs.Tables.{Rows, idsIn, lacking, bare}

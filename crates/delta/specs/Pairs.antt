@@ -31,7 +31,7 @@ pairOf true child parent = (child, parent)
 
 -- the pairs of one kind of a row, if it was added
 unfoldable pub rowPairs : Bool → List ℕ → ℕ → List ℕ → List Pair
-rowPairs merge before child parents = cond (has child before) [] (kindOf merge child (known before parents))
+rowPairs merge before child parents = cond (has child before) [] (kindOf merge child (known parents before))
 
 -- the pairs of one kind, in the order of the added rows
 unfoldable pub pairsOf : Bool → List ℕ → List Segment → List Pair

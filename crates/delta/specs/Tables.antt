@@ -24,7 +24,7 @@ lacking these those = keep (λ (x : ℕ). not (has x those)) these
 
 -- those of `these` that `those` have
 unfoldable pub known : List ℕ → List ℕ → List ℕ
-known those these = keep (λ (x : ℕ). has x those) these
+known these those = keep (λ (x : ℕ). has x those) these
 
 -- the segments of a table, their edges unread
 abbrev pub bare : List ℕ → ℕ → List Segment

@@ -42,7 +42,7 @@ fn place_parent(
 ) -> usize
     requires { ⌜ at + 3 * (k + 1) ≤ length (now w) ⌝ }
     requires { ⌜ Rows (now old) h ⌝ }
-    ensures { λ r. ⌜ Placed (now (w .entry)) (now (w .exit)) at k r (map (pairOf merge child) (known (idsIn (now (old .entry)) h) (parent ∷ []))) ⌝ }
+    ensures { λ r. ⌜ Placed (now (w .entry)) (now (w .exit)) at k r (map (pairOf merge child) (known (parent ∷ []) (idsIn (now (old .entry)) h))) ⌝ }
 {
     if crate::ids::is_held(old, h, parent) {
         place_pair(w, at, k, merge, child, parent);
@@ -66,7 +66,7 @@ fn place_parents(
     requires { ⌜ from + count ≤ at ⌝ }
     requires { ⌜ at + 3 * (k + count) ≤ length (now w) ⌝ }
     requires { ⌜ Rows (now old) h ⌝ }
-    ensures { λ r. ⌜ Placed (now (w .entry)) (now (w .exit)) at k r (map (pairOf merge child) (known (idsIn (now (old .entry)) h) (part (now (w .entry)) from count))) ⌝ }
+    ensures { λ r. ⌜ Placed (now (w .entry)) (now (w .exit)) at k r (map (pairOf merge child) (known (part (now (w .entry)) from count) (idsIn (now (old .entry)) h))) ⌝ }
 {
     let mut r = k;
     let mut j = 0;
@@ -81,7 +81,7 @@ fn place_parents(
 // How many of the listed ids were held before.
 fn count_held(list: &[u64], old: &[u64], h: usize) -> usize
     requires { ⌜ Rows (now old) h ⌝ }
-    ensures { λ r. ⌜ r ≡ length (known (idsIn (now (old .entry)) h) (now (list .entry))) ⌝ }
+    ensures { λ r. ⌜ r ≡ length (known (now (list .entry)) (idsIn (now (old .entry)) h)) ⌝ }
 {
     let mut held = 0;
     let mut j = 0;

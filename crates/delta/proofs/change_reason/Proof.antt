@@ -1,7 +1,6 @@
 -- `delta::change_reason` meets its contract, test by test.
 -- Assumes nothing.
 use Rattle.answers.proofs.Judging.{judging}
-use borrow.Author.Needs.{needs}
 use Rattle.delta.proofs.change_reason.Statement.{statement}
 use Rattle.delta.proofs.change_reason.Tie as tie
 

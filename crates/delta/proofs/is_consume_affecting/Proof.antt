@@ -1,7 +1,6 @@
 -- `delta::is_consume_affecting` meets its contract, test by test.
 -- Assumes nothing.
 use Rattle.answers.proofs.Judging.{judging}
-use borrow.Author.Needs.{needs}
 use Rattle.delta.proofs.is_consume_affecting.Statement.{statement}
 use Rattle.delta.proofs.is_consume_affecting.Tie as tie
 

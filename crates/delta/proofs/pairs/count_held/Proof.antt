@@ -11,7 +11,7 @@ use Rattle.delta.proofs.pairs.count_held.Statement.{statement}
 use Rattle.delta.proofs.pairs.count_held.Tie as tie
 
 abbrev Inv-loop : tie.InvT-loop
-Inv-loop list old h held₀ j₀ held j = (j ≤ length list) × (held ≤ j) × (held ≡ length (known (idsIn old h) (take j list)))
+Inv-loop list old h held₀ j₀ held j = (j ≤ length list) × (held ≤ j) × (held ≡ length (known (take j list) (idsIn old h)))
 
 abbrev μ-loop : tie.MeasureT-loop
 μ-loop list old h held₀ j₀ held j = length list - j

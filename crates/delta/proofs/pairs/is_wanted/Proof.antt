@@ -1,7 +1,6 @@
 -- `delta::pairs::is_wanted` meets its contract, one kind after the other.
 -- Assumes nothing.
 use Rattle.delta.proofs.Placing.{wanted-merge, wanted-split}
-use borrow.Author.Needs.{needs}
 use Rattle.delta.proofs.pairs.is_wanted.Statement.{statement}
 use Rattle.delta.proofs.pairs.is_wanted.Tie as tie
 

@@ -12,7 +12,7 @@ use Rattle.delta.proofs.pairs.place_parents.Statement.{statement}
 use Rattle.delta.proofs.pairs.place_parents.Tie as tie
 
 abbrev Inv-loop : tie.InvT-loop
-Inv-loop w₀ from count at k merge child old h r₀ j₀ w r j = (j ≤ count) × Placed w₀ w at k r (map (pairOf merge child) (known (idsIn old h) (take j (part w₀ from count))))
+Inv-loop w₀ from count at k merge child old h r₀ j₀ w r j = (j ≤ count) × Placed w₀ w at k r (map (pairOf merge child) (known (take j (part w₀ from count)) (idsIn old h)))
 
 abbrev μ-loop : tie.MeasureT-loop
 μ-loop w₀ from count at k merge child old h r₀ j₀ w r j = count - j

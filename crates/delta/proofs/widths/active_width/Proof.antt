@@ -1,7 +1,6 @@
 -- `delta::widths::active_width` meets its contract, case by case.
 -- Assumes nothing.
 use Rattle.delta.proofs.Summed.{width-sealed, width-active, width-reversed, width-fits}
-use borrow.Author.Needs.{needs}
 use Rattle.delta.proofs.widths.active_width.Statement.{statement}
 use Rattle.delta.proofs.widths.active_width.Tie as tie
 
