@@ -19,12 +19,16 @@ incomingRule epoch size limits ss ps =
     rowsRule epoch (limits .edges) ss then
     danglingRule ss ps
 
--- where the index of n segment rows begins, behind the room for their image with k edge words; and where that of the placements does
+-- where the index of n segment rows begins, behind the room for their image with k edge words; where that of m placement rows does; and where
+-- the flags do
 abbrev pub firstAt : ℕ → ℕ → ℕ
 firstAt n k = n * heldWidth + k
 
 abbrev pub secondAt : ℕ → ℕ → ℕ
 secondAt n k = firstAt n k + 3 * n
+
+abbrev pub flagsAt : ℕ → ℕ → ℕ → ℕ
+flagsAt n k m = secondAt n k + 3 * m
 
 -- tables that are not bad, of n and m rows, and a work area with room for the image, both indexes, and a flag a row
 pub record Given (w rows : List ℕ) (n : ℕ) (edges places : List ℕ) (m : ℕ) : Type 0 where

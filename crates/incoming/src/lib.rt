@@ -53,3 +53,40 @@ fn judge_rows_in(
     indexes::twins::mark_twins(w, a, f, n);
     judging::rows::judge_rows(epoch, limit, table, n, edges, &w[f..end])
 }
+
+// 3 to 23, of n segment rows and m placement rows. Behind the room for the image: the index of the rows from a, that of the placements
+// from b, and the twin flags from f, of the placements first and then of the rows.
+pub fn judge_incoming(
+    w: &mut [u64],
+    epoch: u64,
+    size: u64,
+    limits: DagLimits,
+    table: &[u64],
+    n: usize,
+    edges: &[u64],
+    places: &[u64],
+    m: usize,
+) -> Judged
+    requires { ⌜ Given (now w) (now table) n (now edges) (now places) m ⌝ }
+    ensures { λ r. ⌜ r ≡ incomingRule epoch size limits (segments (now (table .entry)) (now (edges .entry)) n) (placements (now (places .entry)) m) ⌝ }
+    ensures { λ r. ⌜ (r ≡ Accepted → Ready (now (w .exit)) (now (table .entry)) n (now (places .entry)) m (firstAt n (length (now (edges .entry)))) (secondAt n (length (now (edges .entry))))) ⌝ }
+    ensures { λ r. ⌜ length (now (w .exit)) ≡ length (now (w .entry)) ⌝ }
+{
+    let limit = limits.edges;
+    let sized = judging::sizes::judge_sizes(limits, size, n, m);
+    let Judged::Accepted = sized else {
+        return sized;
+    };
+    let a = n * rules::HELD + edges.len();
+    let b = a + 3 * n;
+    let f = b + 3 * m;
+    let placed = judge_placements_in(w, places, m, b, f);
+    let Judged::Accepted = placed else {
+        return placed;
+    };
+    let listed = judge_rows_in(w, epoch, limit, table, n, edges, a, b, f);
+    let Judged::Accepted = listed else {
+        return listed;
+    };
+    lookups::ids::judge_dangling(&w[a..b], n, &w[b..f], m)
+}
