@@ -2,22 +2,22 @@
 -- stays where later stages write behind it. Assumes nothing.
 use Prim.Native.Nat.{ℕ, _+_, _*_, _≤_}
 use native.Mathlib.Omega.{arith}
-use mathlib.Core.Path.{_≡_, refl, sym, ap, _∙_}
+use mathlib.Core.Path.{_≡_, sym, ap, _∙_}
 use mathlib.Core.List.{List}
-use lib.ListN.{length, take}
+use lib.ListN.{take}
 use Rattle.words.specs.Part.{part}
 use Rattle.answers.specs.declared.Refusal.{Refusal}
 use Rattle.answers.specs.declared.Judged.{Judged}
 use Rattle.answers.specs.declared.Judged.the-variants.{Accepted, Refused}
 use Rattle.answers.specs.Answer.{_then_}
-use Rattle.answers.proofs.Judging.{then-same, then-accepted}
+use Rattle.answers.proofs.Judging.{then-accepted}
 use Rattle.rules.specs.Model.{Segment}
 use Rattle.rules.specs.Order.{Ordered, inOrder, tooDeep, cyclic, orderedRule, orderWords}
 use Rattle.rules.specs.Tiling.{forksFrom, joinsFrom, activeOf, coverageRule}
-use Rattle.tabled.specs.Image.{Image, imageSegments}
+use Rattle.tabled.specs.Image.{imageSegments}
 use Rattle.ordered.specs.Left.{OrderLeft}
-use Rattle.transitions.proofs.Kept.{part-kept, segments-kept, image-kept}
-use Rattle.imaged.specs.Asked.{behind, Graphed}
+use Rattle.transitions.proofs.Kept.{part-kept, segments-kept}
+use Rattle.imaged.specs.Asked.{behind}
 use Rattle.imaged.specs.Judging.{orderIn, rangesIn, graphIn}
 use Rattle.imaged.proofs.Front.{front-less}
 

@@ -17,9 +17,6 @@ use Rattle.imaged.specs.Asked.{Indexed}
 pub front-less : (w w₀ : List ℕ) (a b : ℕ) → a ≤ b → take b w ≡ take b w₀ → take a w ≡ take a w₀
 front-less w w₀ a b h kept = sym (take-take a b w h) ∙ ap (take a) kept ∙ take-take a b w₀ h
 
-pub front-twice : (w₀ w w′ : List ℕ) (a : ℕ) → take a w ≡ take a w₀ → take a w′ ≡ take a w → take a w′ ≡ take a w₀
-front-twice w₀ w w′ a p q = q ∙ p
-
 -- the pairs that were sorted in the words that were lent
 pub lent-indexed : (parents : Bool) (rows edges : List ℕ) (n : ℕ) (w ys : List ℕ) (from k : ℕ) → from + 3 * k ≤ length w → length ys ≡ length (part w from (from + 3 * k - from))
     → Sorts.rows ys ≡ pairIndex parents rowWidth rows edges n → Indexed parents rows edges n w (put w from (from + 3 * k - from) ys) from k

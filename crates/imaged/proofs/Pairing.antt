@@ -6,9 +6,8 @@
 use Prim.Native.Nat.{ℕ, _+_, _-_, _*_, _≤_}
 use native.Mathlib.Omega.{arith}
 use native.Mathlib.Nat.{sub-zero}
-use mathlib.Core.Path.{_≡_, refl, sym, ap, subst, _∙_}
+use mathlib.Core.Path.{_≡_, sym, ap, subst, _∙_}
 use mathlib.Core.Bool.{Bool, true, false}
-use mathlib.Core.Option.{some}
 use mathlib.Core.List.{List}
 use lib.ListN.{length, take}
 use Rattle.words.specs.Part.{part}
@@ -16,11 +15,11 @@ use Rattle.words.specs.Twins.{NoTwins}
 use Rattle.words.proofs.PartLaws.{part-length}
 use Rattle.sorts.specs.Rows as Sorts
 use Rattle.rules.specs.Model.{Segment, lookup, byId}
-use Rattle.rules.specs.Tables.{rowWidth, heldWidth, edgesFrom, segments, heldSegments}
+use Rattle.rules.specs.Tables.{rowWidth, heldWidth, segments, heldSegments}
 use Rattle.answers.specs.declared.Judged.{Judged}
 use Rattle.rules.specs.Edges.{linksFrom}
 use Rattle.rules.proofs.Ascended.{lookup-byId}
-use Rattle.tabled.specs.Image.{Tabled, Image, imageRows, imageEdges, imageSegments}
+use Rattle.tabled.specs.Image.{Tabled, imageRows, imageEdges, imageSegments}
 use Rattle.lookups.specs.PairSearch.{hasPair, Ordered}
 use Rattle.lookups.specs.Sides.{side, sidesFrom, pairIndex}
 use Rattle.lookups.proofs.Linked.{index-ordered, linked-index, distinct}
@@ -37,8 +36,8 @@ module _ (rows edges : List ℕ) (n : ℕ) (once : NoTwins rows rowWidth n) (S :
         size = size;
         order = subst Ordered (sym is) (index-ordered b rowWidth rows edges n);
         tells = λ x y s found.
-          ap (hasPair x y) is
-          ∙ linked-index b rowWidth rows edges n x y s (distinct rowWidth rows edges n once) (sym (lookup-byId x (segments rows edges n)) ∙ ap (lookup x) (sym same) ∙ found);
+            ap (hasPair x y) is
+            ∙ linked-index b rowWidth rows edges n x y s (distinct rowWidth rows edges n once) (sym (lookup-byId x (segments rows edges n)) ∙ ap (lookup x) (sym same) ∙ found);
       }
 
 module _ (w rows edges : List ℕ) (n e : ℕ) (g : Imaged w n e rows edges) (k : ℕ) (said : k ≡ sidesFrom false rowWidth rows n 0) where
@@ -76,7 +75,7 @@ module _ (w rows edges : List ℕ) (n e : ℕ) (g : Imaged w n e rows edges) (k 
           few = pairs-few;
           fits = omega (arith, g .fits);
           children = tells-side false (behind n e) k (omega (arith, pairs-fit))
-            (ap Sorts.rows (part-kept w₂ w₁ (behind n e + 3 * k) (second .kept) (behind n e) (3 * k) (omega arith)) ∙ first .pairs);
+              (ap Sorts.rows (part-kept w₂ w₁ (behind n e + 3 * k) (second .kept) (behind n e) (3 * k) (omega arith)) ∙ first .pairs);
           parents = tells-side true (behind n e + 3 * k) (e - k) (pairs-fit-both w₂ (size₂ ∙ size₁)) (second .pairs);
         }
 

@@ -4,12 +4,11 @@ use Prim.Native.Nat.{ℕ}
 use mathlib.Core.Path.{_≡_, refl, sym, ap, _∙_}
 use mathlib.Core.List.{List, [], map}
 use lib.ListN.{length}
-use Rattle.answers.specs.declared.Judged.{Judged}
 use Rattle.answers.specs.Answer.{_then_}
 use Rattle.rules.specs.Model.{Segment, byId}
 use Rattle.rules.specs.Edges.{linksFrom, edgesRule}
-use Rattle.rules.specs.Order.{nodeOf, orderFrom, orderOf, orderedRule, orderRule}
-use Rattle.rules.specs.Tiling.{forksFrom, joinsFrom, transitionsRule, activeOf, coverageRule}
+use Rattle.rules.specs.Order.{nodeOf, orderFrom, orderOf, orderRule}
+use Rattle.rules.specs.Tiling.{transitionsRule, activeOf, coverageRule}
 use Rattle.rules.proofs.Ascended.{links-byId, forks-byId, joins-byId, active-byId, length-byId}
 use Rattle.imaged.specs.Judging.{orderIn, rangesIn, graphIn}
 

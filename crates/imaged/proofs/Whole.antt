@@ -1,8 +1,8 @@
 -- The two halves of `judge_image` as one chain over the input tables: 24 to 27 refuse, or every edge leads to a row and 28 to 35 answer.
 -- The scratch in between is that of the first half, and the image is the same. Assumes nothing.
-use Prim.Native.Nat.{ℕ, _+_, _*_, _≤_}
+use Prim.Native.Nat.{ℕ}
 use native.Mathlib.Omega.{arith}
-use mathlib.Core.Path.{_≡_, refl, sym, ap, _∙_}
+use mathlib.Core.Path.{_≡_, sym, ap, _∙_}
 use mathlib.Core.List.{List}
 use lib.ListN.{length, take}
 use Rattle.answers.specs.declared.Refusal.{Refusal}
@@ -58,5 +58,5 @@ module _ (w rows edges : List ℕ) (n e : ℕ) (g : Imaged w n e rows edges) (j 
         then-accepted j (edgesRule (segments rows edges n)) (orderRule depth (segments rows edges n) then transitionsRule (segments rows edges n) then coverageRule (activeOf (segments rows edges n))) v linked told
         (rest ∙ graph-same (imageSegments w₁ n e) (segments rows edges n) (same ∙ g .same) depth n rows-many)
 
-    pub image-order : (depth : ℕ) (l : List ℕ) → l ≡ orderWords (orderIn depth n (imageSegments w₁ n e)) → l ≡ orderWords (orderOf depth (segments rows edges n))
-    image-order depth l left = left ∙ ap orderWords (order-same (imageSegments w₁ n e) (segments rows edges n) (same ∙ g .same) depth n rows-many)
+    pub image-order : (depth : ℕ) (v : Judged) (l : List ℕ) → (v ≡ Accepted → l ≡ orderWords (orderIn depth n (imageSegments w₁ n e))) → v ≡ Accepted → l ≡ orderWords (orderOf depth (segments rows edges n))
+    image-order depth v l left accepted = left accepted ∙ ap orderWords (order-same (imageSegments w₁ n e) (segments rows edges n) (same ∙ g .same) depth n rows-many)

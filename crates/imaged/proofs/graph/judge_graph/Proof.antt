@@ -1,3 +1,5 @@
+-- `judge_graph` is the order and then the ranges, which are placed behind the order list, so that it stays.
+-- Assumes nothing.
 use Rattle.answers.proofs.Judging.{then-same}
 use Rattle.transitions.proofs.Kept.{image-kept}
 use Rattle.imaged.proofs.Chained.{graph-both, refused-not, order-stays, behind-order}
@@ -5,56 +7,41 @@ use Rattle.imaged.specs.Judging.{graphIn}
 use borrow.Author.Needs.{needs}
 use Rattle.imaged.proofs.graph.judge_graph.Statement.{statement}
 use Rattle.imaged.proofs.graph.judge_graph.Tie as tie
-use Rattle.imaged.proofs.graph.judge_graph.Reads as reads
-use Rattle.imaged.proofs.graph.judge_graph.Lts as lts
-use Rattle.imaged.proofs.graph.judge_ranges.Reads as judge-ranges-reads
-use Rattle.ordered.proofs.judging.judge_order.Reads as judge-order-reads
 
--- src/graph.rt:36:9
 judge-order-requires : tie.Need-judge-order-requires
 judge-order-requires c κs = search needs
 
 enum-told : tie.Need-enum-told
 enum-told c = search needs
 
--- src/graph.rt:38:9
 enum-told-2 : tie.Need-enum-told-2
 enum-told-2 c = search needs
 
--- src/graph.rt:38:9
 same-length : tie.Need-same-length
 same-length c = search needs
 
--- src/graph.rt:38:9
 returns : tie.Need-returns
 unfolding graphIn
 returns c = (search then-same, (search needs, λ accepted. search refused-not))
 
--- src/graph.rt:40:33
 mul-judge-ranges : tie.Need-mul-judge-ranges
 mul-judge-ranges c = search needs
 
--- src/graph.rt:40:33
 add-judge-ranges : tie.Need-add-judge-ranges
 add-judge-ranges c = search needs
 
--- src/graph.rt:40:33
 add-judge-ranges-2 : tie.Need-add-judge-ranges-2
 add-judge-ranges-2 c = search needs
 
--- src/graph.rt:40:27
 add-judge-ranges-3 : tie.Need-add-judge-ranges-3
 add-judge-ranges-3 c = search needs
 
--- src/graph.rt:40:5
 judge-ranges-requires : tie.Need-judge-ranges-requires
 judge-ranges-requires c κs = (search image-kept, (search needs, search needs))
 
--- src/graph.rt:30:1
 same-length-2 : tie.Need-same-length-2
 same-length-2 c = search needs
 
--- src/graph.rt:30:1
 returns-2 : tie.Need-returns-2
 returns-2 c = (search graph-both, (search behind-order, λ accepted. search order-stays))
 
