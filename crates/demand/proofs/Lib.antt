@@ -1,3 +1,3 @@
 pub mod Passes
 pub mod Acceptance
-
+pub mod DemandThree
