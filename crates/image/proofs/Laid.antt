@@ -31,7 +31,7 @@ use Rattle.indexes.proofs.Keys.{segmentOfKey, byId-index, index-in, length-inde
 use Rattle.indexes.proofs.Once.{index-up}
 use Rattle.image.proofs.HeldWords.{held-rows-size, held-edges-size}
 
-length-from : (rows edges : List ℕ) (n i place : ℕ) → length (segmentsFrom rowWidth rows edges n i place) ≡ n
+pub length-from : (rows edges : List ℕ) (n i place : ℕ) → length (segmentsFrom rowWidth rows edges n i place) ≡ n
 length-from rows edges zero i place = refl
 length-from rows edges (suc n) i place = ap suc (length-from rows edges n (i + 1) (place + parentsAt rows (i * rowWidth) + childrenAt rows (i * rowWidth)))
 

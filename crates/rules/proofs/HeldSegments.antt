@@ -2,6 +2,7 @@
 --     segments-of-layout     its segments are those of the layout that it stands for
 --     held-segments          so the held tables of segments are these segments, ascending
 --     count-edges            the counts in its rows add up to its edges
+--     area-segments, area-counts     the same of areas that begin with these tables
 -- By `decode-encode`, and by the counts read back row after row. Assumes nothing.
 use Prim.Native.Nat.{ℕ, zero, suc, _+_, _*_}
 use native.Mathlib.Omega.{arith}
@@ -48,13 +49,20 @@ module _ (ss : List Segment) (ps : List Placement) (n : ℕ) (l : length ss ≡ 
   size : n ≡ length (layout ss ps)
   size = sym (layout-length ss ps ∙ l)
 
-  pub held-segments : heldSegments (heldRows ss ps) (heldEdges ss ps) n ≡ byId ss
+  -- areas that begin with the held tables, whatever words follow
+  pub area-segments : (u v : List ℕ) → heldSegments (heldRows ss ps ++ u) (heldEdges ss ps ++ v) n ≡ byId ss
   unfolding heldRows heldEdges
-  held-segments =
-      let back : layoutOf (heldRows ss ps) (heldEdges ss ps) n ≡ layout ss ps =
-      rw (← append-nil (heldRows ss ps), ← append-nil (heldEdges ss ps), size) (decode-encode (layout ss ps) [] []) in
-      segments-of-layout (heldRows ss ps) (heldEdges ss ps) n ∙ ap (map segment) back ∙ joined ps (byId ss)
+  area-segments u v =
+      let back : layoutOf (heldRows ss ps ++ u) (heldEdges ss ps ++ v) n ≡ layout ss ps = rw size (decode-encode (layout ss ps) u v) in
+      segments-of-layout (heldRows ss ps ++ u) (heldEdges ss ps ++ v) n ∙ ap (map segment) back ∙ joined ps (byId ss)
+
+  pub area-counts : (u : List ℕ) → edgesFrom heldWidth (heldRows ss ps ++ u) n 0 ≡ length (heldEdges ss ps)
+  unfolding heldRows heldEdges
+  area-counts u = rw size (count-from (layout ss ps) (heldRows ss ps ++ u) u [] 0 refl refl)
+
+  -- and the tables alone
+  pub held-segments : heldSegments (heldRows ss ps) (heldEdges ss ps) n ≡ byId ss
+  held-segments = sym (λ k. heldSegments (append-nil (heldRows ss ps) k) (append-nil (heldEdges ss ps) k) n) ∙ area-segments [] []
 
   pub count-edges : edgesFrom heldWidth (heldRows ss ps) n 0 ≡ length (heldEdges ss ps)
-  unfolding heldRows heldEdges
-  count-edges = rw size (count-from (layout ss ps) (heldRows ss ps) [] [] 0 (sym (append-nil (heldRows ss ps))) refl)
+  count-edges = sym (ap (λ (t : List ℕ). edgesFrom heldWidth t n 0) (append-nil (heldRows ss ps))) ∙ area-counts []
