@@ -16,7 +16,7 @@ use Rattle.image.proofs.Laid.{image-rows, image-edges, image-segments, image-la
 use Rattle.answers.specs.declared.Refusal.{Refusal}
 use Rattle.answers.specs.declared.Judged.{Judged}
 use Rattle.answers.specs.declared.Judged.the-variants.{Accepted, Refused}
-use Rattle.layout.specs.Laid.{Imaged}
+use Rattle.layout.specs.Laid.{ImageOf}
 use Rattle.layout.specs.Lent.{ifAccepted}
 
 module _ (w₀ w table edges places : List ℕ) (n m : ℕ) (all : edgesFrom rowWidth table n 0 ≡ length edges) (once : NoTwins table rowWidth n)
@@ -25,7 +25,7 @@ module _ (w₀ w table edges places : List ℕ) (n m : ℕ) (all : edgesFrom row
   room : n * heldWidth + length edges ≤ length w₀
   room = omega (arith, ready .room)
 
-  pub imaged : Imaged w n (length edges) (segments table edges n) (placements places m)
+  pub imaged : ImageOf w n (length edges) (segments table edges n) (placements places m)
   imaged =
       let ps : List Placement = placements places m in
       record {

@@ -18,7 +18,7 @@ use Rattle.rules.specs.Room.{noRoomToJudge}
 use Rattle.rules.specs.Layout.{layoutRule}
 use Rattle.rules.specs.Judge.{Tables, Areas, judgement, filled, areasAfter, pastRoom, clearedIf, workAfter}
 use Rattle.tabled.specs.Image.{imageRows, imageEdges}
-use Rattle.layout.specs.Laid.{Imaged, LaidOut, orderAt}
+use Rattle.layout.specs.Laid.{ImageOf, LaidOut, orderAt}
 use Rattle.layout.specs.Lent.{tablesOf, areasOf, ifAccepted, Owed}
 
 module _ (epoch size : ℕ) (limits : DagLimits) (rows edges places work held links order : List ℕ) (x : Bool) (said : x ≡ badLayout rows edges places) where
