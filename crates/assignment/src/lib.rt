@@ -16,9 +16,9 @@ use types::records::Assigned;
 use words::Found;
 
 // Where the walk over the list stands: the next record, which is past the last one where the walk has ended, and the answer so far.
-pub struct Turn {
-    pub next: usize,
-    pub answer: Judged,
+struct Turn {
+    next: usize,
+    answer: Judged,
 }
 
 // The row says another range than the assignment.
@@ -107,8 +107,7 @@ fn first_turn(len: usize, rows: &[u64], n: usize, dag: u64, epoch: u64) -> Turn
 
 // The record at place i.
 fn next_turn(a: Assigned, rows: &[u64], n: usize, i: usize, len: usize) -> Turn
-    requires { ⌜ i < len ⌝ }
-    requires { ⌜ badHeldRows (now rows) n ≡ false ⌝ }
+    requires { ⌜ (i < len) × (badHeldRows (now rows) n ≡ false) ⌝ }
     ensures { λ r. ⌜ r ≡ turnTo (i + 1) len (assignedRule (heads heldWidth (now (rows .entry)) n 0) a) ⌝ }
 {
     turn_to(i + 1, len, judge_record(rows, n, a))
