@@ -1,7 +1,6 @@
 -- One record, judged by what the search for its id found; and a turn of the walk, by what was judged. Assumes nothing.
 use Prim.Native.Nat.{ℕ, _*_, _<_}
 use mathlib.Core.Path.{_≡_, sym, ap, _∙_}
-use mathlib.Core.Bool.{Bool}
 use mathlib.Core.Option.{some}
 use mathlib.Core.List.{List}
 use Rattle.words.specs.Table.{ids, whereIs}

@@ -2,16 +2,16 @@
 --     Walking      what holds at each turn of the walk     starts, keeps      it holds at first, and a turn keeps it
 --     nearer       a turn leaves fewer records     ended      where the walk has ended, the answer is what was to be answered
 -- Assumes nothing.
-use Prim.Native.Nat.{ℕ, _+_, _-_, _<_, _≤_}
+use Prim.Native.Nat.{ℕ, _+_, _-_, _<_}
 use native.Mathlib.Numerals.{add-one}
 use native.Mathlib.Omega.{arith}
-use mathlib.Core.Path.{_≡_, refl, sym, ap, _∙_}
-use mathlib.Core.Bool.{Bool, true, false, not, cond, true≢false}
-use mathlib.Core.List.{List, [], _∷_}
+use mathlib.Core.Path.{_≡_, refl, _∙_}
+use mathlib.Core.Bool.{Bool, true, false, not, cond}
+use mathlib.Core.List.{List}
 use lib.Dec.{eqb, ltb}
 use lib.ListN.{length, getD, drop, drop-of-length-le}
 use lib.Seq.{drop-cons}
-use borrow.Author.Tests.{lt-ltb, le-ltb, ltb-true, ltb-false}
+use borrow.Author.Tests.{le-ltb, ltb-true, ltb-false}
 use Rattle.answers.specs.declared.Judged.{Judged}
 use Rattle.answers.specs.declared.Judged.the-variants.{Accepted, Refused}
 use Rattle.answers.specs.Answer.{when, _then_, refuse0, refuse2}
@@ -26,6 +26,9 @@ use Rattle.assignment.specs.Turns.{beforeList, turnTo}
 by-test : {P : Type 0} (b : Bool) → (b ≡ true → P) → (b ≡ false → P) → P
 by-test true t f = t refl
 by-test false t f = f refl
+
+abbrev held : List ℕ → ℕ → List Head
+held rows n = heads heldWidth rows n 0
 
 -- what a walk will answer from turn t on
 abbrev left : List Head → List Assigned → Turn → Judged
@@ -57,21 +60,21 @@ passed rows n dag epoch len = by (badHeldRows rows n)
 module _ (rows : List ℕ) (n dag epoch : ℕ) (xs : List Assigned) where
   -- what holds at turn t; a walk that goes on has passed 1
   pub record Walking (t : Turn) : Type 0 where
-    pub same : left (heads heldWidth rows n 0) xs t ≡ assignmentRule rows n dag epoch xs
+    pub same : left (held rows n) xs t ≡ assignmentRule rows n dag epoch xs
     pub good : t .next < length xs → badHeldRows rows n ≡ false
 
-  before-then : beforeList rows n dag epoch then eachAssigned (heads heldWidth rows n 0) xs ≡ assignmentRule rows n dag epoch xs
+  before-then : beforeList rows n dag epoch then eachAssigned (held rows n) xs ≡ assignmentRule rows n dag epoch xs
   unfolding beforeList assignmentRule
   before-then = by (badHeldRows rows n) (not (eqb epoch dag))
     where
-      by : (s t : Bool) → (when s (refuse0 1) then when t (refuse2 60 epoch dag)) then eachAssigned (heads heldWidth rows n 0) xs
-          ≡ when s (refuse0 1) then when t (refuse2 60 epoch dag) then eachAssigned (heads heldWidth rows n 0) xs
+      by : (s t : Bool) → (when s (refuse0 1) then when t (refuse2 60 epoch dag)) then eachAssigned (held rows n) xs
+          ≡ when s (refuse0 1) then when t (refuse2 60 epoch dag) then eachAssigned (held rows n) xs
       by true t = refl
       by false true = refl
       by false false = refl
 
   pub starts : Walking (turnTo 0 (length xs) (beforeList rows n dag epoch))
-  starts = record { same = left-turned (heads heldWidth rows n 0) xs 0 (beforeList rows n dag epoch) ∙ before-then; good = passed rows n dag epoch (length xs) }
+  starts = record { same = left-turned (held rows n) xs 0 (beforeList rows n dag epoch) ∙ before-then; good = passed rows n dag epoch (length xs) }
 
   module _ (t : Turn) (walking : Walking t) where
     pub ended : ltb (t .next) (length xs) ≡ false → t .answer ≡ assignmentRule rows n dag epoch xs
@@ -84,16 +87,16 @@ module _ (rows : List ℕ) (n dag epoch : ℕ) (xs : List Assigned) where
       pub allowed : badHeldRows rows n ≡ false
       allowed = walking .good less
 
-      one : assignedRule (heads heldWidth rows n 0) (getD xs (t .next) none) then eachAssigned (heads heldWidth rows n 0) (drop (t .next + 1) xs) ≡ eachAssigned (heads heldWidth rows n 0) (drop (t .next) xs)
+      one : assignedRule (held rows n) (getD xs (t .next) none) then eachAssigned (held rows n) (drop (t .next + 1) xs) ≡ eachAssigned (held rows n) (drop (t .next) xs)
       unfolding eachAssigned
       one = rw (add-one, drop-cons xs (t .next) none less)
 
-      pub keeps : Walking (turnTo (t .next + 1) (length xs) (assignedRule (heads heldWidth rows n 0) (getD xs (t .next) none)))
+      pub keeps : Walking (turnTo (t .next + 1) (length xs) (assignedRule (held rows n) (getD xs (t .next) none)))
       keeps =
           record {
-            same = left-turned (heads heldWidth rows n 0) xs (t .next + 1) (assignedRule (heads heldWidth rows n 0) (getD xs (t .next) none)) ∙ one ∙ (simp test at (walking .same));
+            same = left-turned (held rows n) xs (t .next + 1) (assignedRule (held rows n) (getD xs (t .next) none)) ∙ one ∙ (simp test at (walking .same));
             good = λ _. allowed;
           }
 
-      pub nearer : length xs - turnTo (t .next + 1) (length xs) (assignedRule (heads heldWidth rows n 0) (getD xs (t .next) none)) .next < length xs - t .next
-      nearer = nearer-turned (assignedRule (heads heldWidth rows n 0) (getD xs (t .next) none)) (t .next) (length xs) less
+      pub nearer : length xs - turnTo (t .next + 1) (length xs) (assignedRule (held rows n) (getD xs (t .next) none)) .next < length xs - t .next
+      nearer = nearer-turned (assignedRule (held rows n) (getD xs (t .next) none)) (t .next) (length xs) less
