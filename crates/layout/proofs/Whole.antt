@@ -18,7 +18,10 @@ use Rattle.rules.specs.Room.{noRoomToJudge}
 use Rattle.rules.specs.Layout.{layoutRule}
 use Rattle.rules.specs.Judge.{Tables, Areas, judgement, filled, areasAfter, pastRoom, clearedIf, workAfter}
 use Rattle.tabled.specs.Image.{imageRows, imageEdges}
-use Rattle.layout.specs.Laid.{ImageOf, LaidOut, orderAt}
+use native.Mathlib.Omega.{arith}
+use Rattle.shape.proofs.Good.{layout-rows, layout-counts, layout-places}
+use Rattle.shape.proofs.Enough.{enough-to-judge}
+use Rattle.layout.specs.Laid.{ImageOf, LaidOut, Fit, orderAt}
 use Rattle.layout.specs.Lent.{tablesOf, areasOf, ifAccepted, Owed}
 
 module _ (epoch size : ℕ) (limits : DagLimits) (rows edges places work held links order : List ℕ) (x : Bool) (said : x ≡ badLayout rows edges places) where
@@ -84,3 +87,15 @@ module _ (epoch size : ℕ) (limits : DagLimits) (rows edges places work held li
             edges-held = kept _ links links′ (λ (b : Areas). b .links) refl (λ s. ap (λ (q : List ℕ). front q links) (laid s .imaged .edges)) l;
             order-held = kept _ order order′ (λ (b : Areas). b .order) refl (λ s. ap (λ (q : List ℕ). front q order) (laid s .order)) o;
           }
+
+-- what judging in the work area asks, once 1 and 2 have passed
+pub fit : (rows edges places : List ℕ) (work held links order : ℕ) (x : Bool) → x ≡ badLayout rows edges places → x ≡ false
+    → (y : Bool) → y ≡ noRoomToJudge work held links order (length rows / rowWidth) (length places / placeWidth) (length edges) → y ≡ false
+    → Fit rows (length rows / rowWidth) edges places (length places / placeWidth) work
+fit rows edges places work held links order x said good y asked room =
+    record {
+      rows-in = omega (arith, layout-rows rows edges places x said good);
+      counts = layout-counts rows edges places x said good;
+      places-in = omega (arith, layout-places rows edges places x said good);
+      room = enough-to-judge work held links order (length rows / rowWidth) (length places / placeWidth) (length edges) y asked room .for-work;
+    }

@@ -29,7 +29,15 @@ fn lay_out(w: &mut [u64], rows: &[u64], n: usize, edges: &[u64], places: &[u64],
 }
 
 // 24 to 35 of a layout whose rows have passed 3 to 23 and whose indexes stand in the work area.
-fn judge_laid(w: &mut [u64], rows: &[u64], n: usize, edges: &[u64], places: &[u64], m: usize, depth: u64) -> Judged
+fn judge_laid(
+    w: &mut [u64],
+    rows: &[u64],
+    n: usize,
+    edges: &[u64],
+    places: &[u64],
+    m: usize,
+    depth: u64,
+) -> Judged
     requires { ⌜ edgesFrom rowWidth (now rows) n 0 ≡ length (now edges) ⌝ }
     requires { ⌜ NoTwins (now rows) rowWidth n ⌝ }
     requires { ⌜ Ready (now w) (now rows) n (now places) m (n * heldWidth + length (now edges)) (n * heldWidth + length (now edges) + 3 * n) ⌝ }
@@ -135,7 +143,15 @@ pub fn judge_layout_with_limits(
     }
     let n = rows.len() / rules::ROW;
     let m = places.len() / rules::PLACE;
-    if shape::room::lacks_room_to_judge(work.len(), held.len(), links.len(), order.len(), n, m, edges.len()) {
+    if shape::room::lacks_room_to_judge(
+        work.len(),
+        held.len(),
+        links.len(),
+        order.len(),
+        n,
+        m,
+        edges.len(),
+    ) {
         return answers::refuse(2, 0, 0, 0, 0);
     }
     let judged = judge_in(work, epoch, size, limits, rows, n, edges, places, m);
@@ -156,5 +172,16 @@ pub fn judge_layout(
 ) -> Judged
     ensures { λ r. ⌜ Owed epoch size defaultLimits (tablesOf (now (rows .entry)) (now (edges .entry)) (now (places .entry))) (now (work .entry)) (areasOf (now (held .entry)) (now (links .entry)) (now (order .entry))) r (now (work .exit)) (now (held .exit)) (now (links .exit)) (now (order .exit)) ⌝ }
 {
-    judge_layout_with_limits(epoch, size, DagLimits::DEFAULT, rows, edges, places, work, held, links, order)
+    judge_layout_with_limits(
+        epoch,
+        size,
+        DagLimits::DEFAULT,
+        rows,
+        edges,
+        places,
+        work,
+        held,
+        links,
+        order,
+    )
 }
