@@ -2,3 +2,4 @@ pub mod Cases
 pub mod SortLaws
 pub mod RowOrder
 pub mod Sums
+pub mod SetLaws

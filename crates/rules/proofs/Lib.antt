@@ -1,1 +1,11 @@
 pub mod Examples
+pub mod Ticks
+pub mod Tiled
+pub mod Covered
+pub mod TilingCases
+pub mod Ancestry
+pub mod Counting
+pub mod Answers
+pub mod NoDeadEnd
+pub mod OrderingCases
+pub mod Ascended
