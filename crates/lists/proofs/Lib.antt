@@ -3,3 +3,4 @@ pub mod SortLaws
 pub mod RowOrder
 pub mod Sums
 pub mod SetLaws
+pub mod SortMap

@@ -9,3 +9,5 @@ pub mod Answers
 pub mod NoDeadEnd
 pub mod OrderingCases
 pub mod Ascended
+pub mod Places
+pub mod Decode
