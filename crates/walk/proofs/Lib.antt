@@ -1,0 +1,7 @@
+pub mod ByParents
+pub mod Singles
+pub mod Joined
+pub mod Meeting
+pub mod Reach
+pub mod Steps
+pub mod Turns
