@@ -5,3 +5,4 @@ pub mod Meeting
 pub mod Reach
 pub mod Steps
 pub mod Turns
+pub mod Climbing

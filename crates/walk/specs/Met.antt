@@ -69,3 +69,9 @@ metIn n len m w = met (marksIn n w) (listIn n len w) (readIn n m w)
 -- the words at the front say where the edges of each of the n rows begin
 abbrev pub StartsIn : List ℕ → ℕ → List ℕ → Type 0
 StartsIn rows n w = (i : ℕ) → i < n → getD w i 0 ≡ startOf heldWidth rows i
+
+-- the r references that a walk from row a read are the ancestors of the row's segment, and as many as document 01 counts
+pub record Climbed (rows edges : List ℕ) (n a : ℕ) (w : List ℕ) (r : ℕ) : Type 0 where
+  pub are : (x : ℕ) → x ∈ readIn n r w ↔ Ancestor (heldSegments rows edges n) x (getD rows (a * heldWidth) 0)
+  pub count : r ≡ referencesRead (heldSegments rows edges n) (getD rows (a * heldWidth) 0)
+  pub fits : r ≤ length edges

@@ -8,7 +8,7 @@ ghost use lib.ListN.{length, getD, set, take, replicate};
 ghost use Rattle.words.specs.Table.{ids, Ascends};
 ghost use Rattle.rules.specs.Tables.{heldWidth, parentsAt, edgesFrom};
 ghost use Rattle.tabled.specs.Image.{Tabled, segmentIn};
-ghost use Rattle.walk.specs.Met.{Held, meet, meetAll, metIn, StartsIn};
+ghost use Rattle.walk.specs.Met.{Held, meet, meetAll, metIn, marksIn, StartsIn, Climbed};
 use words::Found;
 
 // The front of w says where the edges of each of the n rows begin; g is how many edge words they have.
@@ -104,4 +104,24 @@ fn expand(
     let from = w[r] as usize;
     let count = parent_count(rows, r);
     meet_parents(rows, n, &edges[from..from + count], len, m, w)
+}
+
+// All parents of row a are read, and those of each row that is met so; the answer is how many parent references were read.
+fn climb(rows: &[u64], edges: &[u64], n: usize, a: usize, w: &mut [u64]) -> usize
+    requires { ⌜ Tabled (now rows) (now edges) n × (a < n) ⌝ }
+    requires { ⌜ (3 * n + 3 * length (now edges) ≤ length (now w)) × StartsIn (now rows) n (now w) × (marksIn n (now w) ≡ replicate n 0) ⌝ }
+    ensures { λ r. ⌜ Climbed (now (rows .entry)) (now (edges .entry)) n a (now (w .exit)) r ⌝ }
+{
+    w[n + a] = 1;
+    w[2 * n] = a as u64;
+    let mut len: usize = 1;
+    let mut m: usize = 0;
+    let mut q: usize = 0;
+    while q < len {
+        let r = w[2 * n + q] as usize;
+        len = expand(rows, edges, n, r, len, m, w);
+        m += parent_count(rows, r);
+        q += 1;
+    }
+    m
 }
