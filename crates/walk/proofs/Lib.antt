@@ -6,3 +6,4 @@ pub mod Reach
 pub mod Steps
 pub mod Turns
 pub mod Climbing
+pub mod Keeping

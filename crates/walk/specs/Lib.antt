@@ -1,1 +1,2 @@
 pub mod Met
+pub mod Kept
