@@ -7,3 +7,4 @@ pub mod Steps
 pub mod Turns
 pub mod Climbing
 pub mod Keeping
+pub mod Sorting

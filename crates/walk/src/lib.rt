@@ -172,3 +172,23 @@ fn keep_once(w: &mut [u64], a: usize, m: usize, b: usize) -> usize
     }
     k
 }
+
+// The same of rows in any order.
+fn list_once(w: &mut [u64], a: usize, m: usize, b: usize) -> usize
+    requires { ⌜ (a + 3 * m ≤ b) × (b + m ≤ length (now w)) ⌝ }
+    ensures { λ k. ⌜ Kept (part (now (w .exit)) b k) (ids (drop a (now (w .entry))) 3 m) × (k ≤ m) ⌝ }
+{
+    sorts::sort3(&mut w[a..a + 3 * m], m);
+    keep_once(w, a, m, b)
+}
+
+// Where the edges of each of the n rows begin, and no row met.
+fn prepare(rows: &[u64], n: usize, g: usize, w: &mut [u64])
+    requires { ⌜ n * heldWidth ≤ length (now rows) ⌝ }
+    requires { ⌜ edgesFrom heldWidth (now rows) n 0 ≡ g ⌝ }
+    requires { ⌜ 2 * n ≤ length (now w) ⌝ }
+    ensures { λ _. ⌜ StartsIn (now (rows .entry)) n (now (w .exit)) × (marksIn n (now (w .exit)) ≡ replicate n 0) ⌝ }
+{
+    fill_starts(rows, n, g, w);
+    words::clear(&mut w[n..2 * n]);
+}
