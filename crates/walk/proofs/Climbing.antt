@@ -1,5 +1,6 @@
 -- The walk's loop in the work area: of the `len` rows met the first q were expanded, and m references were read.
 --     climb-start, climb-asks, climb-next, climb-end
+--     climbed-listed     the ids read, each once, are the ancestors
 -- Assumes nothing.
 use Prim.Native.Nat.{ℕ, zero, suc, _+_, _*_, _<_, _≤_}
 use native.Mathlib.Omega.{arith}
@@ -11,9 +12,12 @@ use Rattle.words.specs.Part.{part}
 use Rattle.words.specs.Table.{ids}
 use Rattle.words.proofs.PartLaws.{part-length, part-at}
 use Rattle.words.proofs.TableLaws.{length-ids}
-use Rattle.rules.specs.Tables.{heldWidth, parentsAt, startOf}
+use Rattle.rules.specs.Tables.{heldWidth, parentsAt, startOf, heldSegments}
+use Rattle.rules.specs.Ancestors.{ancestors}
+use Rattle.rules.proofs.Ancestry.{ancestors-unique}
 use Rattle.rules.proofs.Places.{start-room, length-stretch}
 use Rattle.tabled.specs.Image.{Tabled, segmentIn}
+use Rattle.walk.specs.Kept.{Kept}
 use Rattle.walk.specs.Met.{Met, met, meetAll, Held, marksIn, listIn, readIn, metIn, StartsIn, Climbed}
 use Rattle.walk.proofs.Steps.{set-inside, set-past, set-ahead, part-more, starts-kept}
 use Rattle.walk.proofs.Reach.{Reached, parentsOfRow, reached-start, reached-next, reads-fit, row-below, read-are, read-count}
@@ -75,3 +79,7 @@ module _ (rows edges : List ℕ) (n : ℕ) (t : Tabled rows edges n) (a : ℕ) (
           reached-next rows edges n t a la q (metIn n len m w) r inside (metIn n len′ (m + parentsAt rows (here * heldWidth)) w′)
           (e .0 ∙ ap (λ (x : ℕ). meetAll (ids rows heldWidth n) (parentsOfRow rows edges x) (metIn n len m w)) (sym row-is)) in
           (omega (arith, x .le, part-length w′ (2 * n) len′ (omega (arith, e .1))), omega (arith, fits), starts-kept rows n w w′ (e .2) s, rw ep x)
+
+pub climbed-listed : (rows edges : List ℕ) (n a : ℕ) (w : List ℕ) (m : ℕ) (l : List ℕ) → Climbed rows edges n a w m → Kept l (readIn n m w) → l ≡ ancestors (heldSegments rows edges n) (getD rows (a * heldWidth) 0)
+climbed-listed rows edges n a w m l c k =
+    ancestors-unique (heldSegments rows edges n) (getD rows (a * heldWidth) 0) l (k .up) (λ x. (λ h. c .are x .0 (sym (k .same x) ∙ h), λ b. k .same x ∙ c .are x .1 b))

@@ -192,3 +192,15 @@ fn prepare(rows: &[u64], n: usize, g: usize, w: &mut [u64])
     fill_starts(rows, n, g, w);
     words::clear(&mut w[n..2 * n]);
 }
+
+// The ancestors of the segment of row a, ascending, stand from word 3 n + 3 g on, where g is the number of edge words.
+pub fn ancestors_of(rows: &[u64], edges: &[u64], n: usize, a: usize, w: &mut [u64]) -> Ancestry
+    requires { ⌜ Tabled (now rows) (now edges) n × (a < n) × (3 * n + 4 * length (now edges) ≤ length (now w)) ⌝ }
+    ensures { λ r. ⌜ Listed (now (rows .entry)) (now (edges .entry)) n a (3 * n + 3 * length (now (edges .entry))) (now (w .exit)) r ⌝ }
+{
+    let g = edges.len();
+    prepare(rows, n, g, w);
+    let read = climb(rows, edges, n, a, w);
+    let count = list_once(w, 3 * n, read, 3 * n + 3 * g);
+    Ancestry { read, count }
+}
