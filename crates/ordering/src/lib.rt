@@ -6,9 +6,11 @@ ghost use Prim.Native.Nat.{_+_, _*_, _<_, _≤_};
 ghost use lib.ListN.{length};
 ghost use Rattle.rules.specs.Tables.{heldWidth, startOf, edgesFrom};
 ghost use Rattle.rules.specs.Ordering.{permitsFlow, knownRule, parentStretch, childStretch};
-ghost use Rattle.ordering.specs.Rows.{knownRow};
+ghost use Rattle.tabled.specs.Image.{segmentIn};
+ghost use Rattle.ordering.specs.Rows.{knownRow, Fit};
 use answers::Eligibility;
 use answers::Judged;
+use types::records::RowIndex;
 use types::records::SegmentId;
 use words::Found;
 
@@ -62,4 +64,59 @@ fn edge_start(rows: &[u64], h: usize, g: usize, r: usize) -> usize
         i += 1;
     }
     at
+}
+
+// The parents of a row of good tables, as the stretch of the edge table that they are.
+fn parents_in<'a>(rows: &[u64], edges: &'a [u64], h: usize, g: usize, row: RowIndex) -> &'a [u64]
+    requires { ⌜ Fit (now rows) (now edges) h g (row .0) ⌝ }
+    ensures { λ s. ⌜ now s ≡ segmentIn (now (rows .entry)) (now (edges .entry)) (row .0) .parents ⌝ }
+{
+    let from = edge_start(rows, h, g, row.0);
+    let to = from + rows[row.0 * rules::HELD + 9] as usize;
+    &edges[from..to]
+}
+
+// The same of the children.
+fn children_in<'a>(rows: &[u64], edges: &'a [u64], h: usize, g: usize, row: RowIndex) -> &'a [u64]
+    requires { ⌜ Fit (now rows) (now edges) h g (row .0) ⌝ }
+    ensures { λ s. ⌜ now s ≡ segmentIn (now (rows .entry)) (now (edges .entry)) (row .0) .children ⌝ }
+{
+    let at = edge_start(rows, h, g, row.0);
+    let from = at + rows[row.0 * rules::HELD + 9] as usize;
+    let to = from + rows[row.0 * rules::HELD + 10] as usize;
+    &edges[from..to]
+}
+
+// The parents of this segment: a stretch of the held table itself, empty where `judge_known` refuses.
+pub fn parents_of<'a>(
+    rows: &[u64],
+    edges: &'a [u64],
+    h: usize,
+    g: usize,
+    id: SegmentId,
+) -> &'a [u64]
+    ensures { λ s. ⌜ now s ≡ parentStretch (now (rows .entry)) (now (edges .entry)) h g (id .0) ⌝ }
+{
+    let found = known_row(rows, edges, h, g, id.0);
+    match found {
+        Found::At(r) => parents_in(rows, edges, h, g, RowIndex(r)),
+        Found::Nothing => &edges[0..0],
+    }
+}
+
+// The same of its children.
+pub fn children_of<'a>(
+    rows: &[u64],
+    edges: &'a [u64],
+    h: usize,
+    g: usize,
+    id: SegmentId,
+) -> &'a [u64]
+    ensures { λ s. ⌜ now s ≡ childStretch (now (rows .entry)) (now (edges .entry)) h g (id .0) ⌝ }
+{
+    let found = known_row(rows, edges, h, g, id.0);
+    match found {
+        Found::At(r) => children_in(rows, edges, h, g, RowIndex(r)),
+        Found::Nothing => &edges[0..0],
+    }
 }
