@@ -31,9 +31,12 @@ abbrev pub statusOf : List ℕ → List ℕ → ℕ → ℕ
 statusOf history completed x = cond (has x history) (cond (has x completed) 2 1) 0
 
 -- a parentless row created after epoch 0
+abbrev pub rootRow : List ℕ → ℕ → Bool
+rootRow rows r = eqb (parentsAt rows (r * heldWidth)) 0 && ltb 0 (getD rows (r * heldWidth + 4) 0)
+
 abbrev pub rootFound : List ℕ → Found → Bool
 rootFound rows Nothing = false
-rootFound rows (At r) = eqb (parentsAt rows (r * heldWidth)) 0 && ltb 0 (getD rows (r * heldWidth + 4) 0)
+rootFound rows (At r) = rootRow rows r
 
 unfoldable pub rootOf : List ℕ → ℕ → ℕ → Bool
 rootOf rows h x = rootFound rows (whereIs (ids rows heldWidth h) x)

@@ -2,3 +2,4 @@
 // by their marks.
 pub mod by_mark;
 pub mod marks;
+pub mod roots;
