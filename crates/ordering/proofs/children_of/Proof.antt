@@ -5,8 +5,8 @@ use Rattle.ordering.proofs.children_of.Statement.{statement}
 use Rattle.ordering.proofs.children_of.Tie as tie
 use Rattle.ordering.proofs.children_of.Reads as reads
 use Rattle.ordering.proofs.children_of.Lts as lts
-use Rattle.ordering.proofs.children_in.Reads as children-in-reads
-use Rattle.ordering.proofs.known_row.Reads as known-row-reads
+use Rattle.ordering.proofs.known.children_in.Reads as children-in-reads
+use Rattle.ordering.proofs.known.known_row.Reads as known-row-reads
 
 -- src/lib.rt:111:9
 known-row-requires : tie.Need-known-row-requires

@@ -5,8 +5,8 @@ use Rattle.ordering.proofs.parents_of.Statement.{statement}
 use Rattle.ordering.proofs.parents_of.Tie as tie
 use Rattle.ordering.proofs.parents_of.Reads as reads
 use Rattle.ordering.proofs.parents_of.Lts as lts
-use Rattle.ordering.proofs.known_row.Reads as known-row-reads
-use Rattle.ordering.proofs.parents_in.Reads as parents-in-reads
+use Rattle.ordering.proofs.known.known_row.Reads as known-row-reads
+use Rattle.ordering.proofs.known.parents_in.Reads as parents-in-reads
 
 -- src/lib.rt:94:9
 known-row-requires : tie.Need-known-row-requires

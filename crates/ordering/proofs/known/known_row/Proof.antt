@@ -2,10 +2,10 @@ use Rattle.shape.proofs.Good.{held-fit, held-ascend}
 use Rattle.ordering.specs.Rows.{knownRow}
 use Rattle.ordering.proofs.Found.{known-bad, known-good}
 use borrow.Author.Needs.{needs}
-use Rattle.ordering.proofs.known_row.Statement.{statement}
-use Rattle.ordering.proofs.known_row.Tie as tie
-use Rattle.ordering.proofs.known_row.Reads as reads
-use Rattle.ordering.proofs.known_row.Lts as lts
+use Rattle.ordering.proofs.known.known_row.Statement.{statement}
+use Rattle.ordering.proofs.known.known_row.Tie as tie
+use Rattle.ordering.proofs.known.known_row.Reads as reads
+use Rattle.ordering.proofs.known.known_row.Lts as lts
 use Rattle.shape.proofs.tables.is_bad_held.Reads as is-bad-held-reads
 use Rattle.words.proofs.find_row.Reads as find-row-reads
 

@@ -4,10 +4,10 @@ use mathlib.Core.Path.{_≡_, _∙_, sym, ap}
 use Rattle.rules.specs.Tables.{heldWidth, startOf, parentsAt, childrenAt}
 use Rattle.rules.proofs.Places.{start-next, start-room}
 use borrow.Author.Needs.{needs}
-use Rattle.ordering.proofs.edge_start.Statement.{statement}
-use Rattle.ordering.proofs.edge_start.Tie as tie
-use Rattle.ordering.proofs.edge_start.Reads as reads
-use Rattle.ordering.proofs.edge_start.Lts as lts
+use Rattle.ordering.proofs.known.edge_start.Statement.{statement}
+use Rattle.ordering.proofs.known.edge_start.Tie as tie
+use Rattle.ordering.proofs.known.edge_start.Reads as reads
+use Rattle.ordering.proofs.known.edge_start.Lts as lts
 
 abbrev Inv-loop : tie.InvT-loop
 Inv-loop rows h g r at₀ i₀ at i =
