@@ -9,6 +9,7 @@ use types::records::RowIndex;
 use types::records::SegmentId;
 use words::Found;
 
+mod answer;
 mod known;
 
 // May the segment be read?
