@@ -2,11 +2,11 @@
 -- Assumes nothing.
 use Prim.Native.Nat.{ℕ, _+_, _<_, _≤_}
 use native.Mathlib.Omega.{arith}
-use mathlib.Core.Path.{_≡_, refl, sym, ap, _∙_}
+use mathlib.Core.Path.{_≡_, refl, sym, ap, subst, _∙_}
 use mathlib.Core.Bool.{Bool, true, false, cond}
 use mathlib.Core.List.{List, [], _∷_}
 use lib.Dec.{eqb}
-use lib.ListN.{length, set}
+use lib.ListN.{length, set, take}
 use Rattle.lists.specs.Lists.{front, tick}
 use Rattle.lists.specs.Sets.{keep}
 use Rattle.lists.proofs.SetLaws.{keep-same}
@@ -15,9 +15,10 @@ use Rattle.answers.specs.declared.Eligibility.{Eligibility}
 use Rattle.answers.specs.declared.Eligibility.the-variants as E
 use Rattle.types.specs.declared.records.OrderingMode.{OrderingMode}
 use Rattle.types.specs.declared.records.OrderingMode.the-variants.{Strict, BrokerManaged}
-use Rattle.owned.specs.Marks.{Marked, rootOf, withMark}
+use Rattle.owned.specs.Marks.{Marked, rootOf, statusOf, withMark}
+use Rattle.owned.proofs.Raising.{part-kept}
 use Rattle.owned.proofs.Written.{with-keep}
-use Rattle.ordering.specs.Told.{Told, openAnswer, rowAnswer}
+use Rattle.ordering.specs.Told.{Told, openAnswer, rowAnswer, remoteIn, incompleteIn}
 
 -- a list at the front, and how long it is
 abbrev pub Put : List ℕ → List ℕ → List ℕ → ℕ → Type 0
@@ -113,3 +114,14 @@ root-mark rows h l = keep-same _ _ l (λ x i. ticked (rootOf rows h x))
 
 pub pruned-listed : (rows : List ℕ) (h b s k : ℕ) (w w′ : List ℕ) → Marked (λ x. tick (rootOf rows h x)) b s k w w′ → b + k ≤ s → s + k ≤ length w → withMark w′ b s 1 k ≡ keep (rootOf rows h) (part w b k)
 pruned-listed rows h b s k w w′ m apart room = with-keep (λ x. tick (rootOf rows h x)) b s k w w′ m apart room 1 ∙ root-mark rows h (part w b k)
+
+-- the answer past the pruned roots: w₁ is the work area once the pruned roots were listed, w₂ once what was owned is marked
+pub told-owned : (mode : OrderingMode) (id : ℕ) (history completed : List ℕ) (b s k : ℕ) (w w₁ w₂ : List ℕ) (t : Eligibility) (f f′ l l′ : List ℕ) → b + k ≤ s → s + k ≤ length w₁ → take s w₁ ≡ take s w
+    → Marked (statusOf history completed) b s k w₁ w₂ → Told (openAnswer mode id (withMark w₂ b s 0 k) (withMark w₂ b s 1 k)) t f f′ l l′
+    → Told (openAnswer mode id (remoteIn history completed (part w b k)) (incompleteIn history completed (part w b k))) t f f′ l l′
+told-owned mode id history completed b s k w w₁ w₂ t f f′ l l′ apart room front m h =
+    let p : part w₁ b k ≡ part w b k = part-kept b k s w w₁ apart front in
+    let r : withMark w₂ b s 0 k ≡ remoteIn history completed (part w b k) = with-keep (statusOf history completed) b s k w₁ w₂ m apart room 0 ∙ ap (remoteIn history completed) p in
+    let i : withMark w₂ b s 1 k ≡ incompleteIn history completed (part w b k) = with-keep (statusOf history completed) b s k w₁ w₂ m apart room 1 ∙ ap (incompleteIn history completed) p in
+    subst (λ (I : List ℕ). Told (openAnswer mode id (remoteIn history completed (part w b k)) I) t f f′ l l′) i
+    (subst (λ (R : List ℕ). Told (openAnswer mode id R (withMark w₂ b s 1 k)) t f f′ l l′) r h)

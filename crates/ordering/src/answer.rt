@@ -97,3 +97,31 @@ fn list_pruned(
     owned::roots::mark_roots(rows, h, w, b, k, s);
     owned::by_mark::list_marked(w, b, k, s, 1, first)
 }
+
+// 51 for pruned roots, in both modes; else what the history and the completed list make of the ancestors.
+pub fn answer_row(
+    rows: &[u64],
+    h: usize,
+    mode: OrderingMode,
+    id: u64,
+    history: &[u64],
+    completed: &[u64],
+    w: &mut [u64],
+    b: usize,
+    k: usize,
+    s: usize,
+    first: &mut [u64],
+    second: &mut [u64],
+) -> Eligibility
+    requires { ⌜ (h * heldWidth ≤ length (now rows)) × Ascends (ids (now rows) heldWidth h) ⌝ }
+    requires { ⌜ (b + k ≤ s) × (s + k ≤ length (now w)) × Ascends (part (now w) b k) ⌝ }
+    requires { ⌜ (k < length (now first)) × (k ≤ length (now second)) ⌝ }
+    ensures { λ r. ⌜ Told (rowAnswer mode id (prunedIn (now (rows .entry)) h id (part (now (w .entry)) b k)) (remoteIn (now (history .entry)) (now (completed .entry)) (part (now (w .entry)) b k)) (incompleteIn (now (history .entry)) (now (completed .entry)) (part (now (w .entry)) b k))) r (now (first .entry)) (now (first .exit)) (now (second .entry)) (now (second .exit)) ⌝ }
+{
+    let pruned = list_pruned(rows, h, id, w, b, k, s, first);
+    if 0 < pruned {
+        return Eligibility::Unprovable(id, pruned);
+    }
+    owned::marks::mark_owned(w, b, k, s, history, completed);
+    answer_open(mode, id, w, b, k, s, first, second)
+}
