@@ -1,3 +1,5 @@
 pub mod Found
 pub mod Stretches
 pub mod Telling
+pub mod Pruned
+pub mod Asking

@@ -11,6 +11,7 @@ use words::Found;
 
 mod answer;
 mod known;
+pub mod query;
 
 // May the segment be read?
 pub fn permits_flow(answer: Eligibility) -> bool
