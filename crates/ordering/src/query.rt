@@ -4,7 +4,7 @@ ghost use mathlib.Core.Path.{_≡_};
 ghost use Prim.Native.Nat.{_+_, _*_, _<_, _≤_};
 ghost use lib.ListN.{length, getD};
 ghost use Rattle.rules.specs.Tables.{heldWidth, heldSegments};
-ghost use Rattle.rules.specs.Ordering.{ordering};
+ghost use Rattle.rules.specs.Ordering.{ordering, refusedAt, orderingOf};
 ghost use Rattle.tabled.specs.Image.{Tabled};
 ghost use Rattle.ordering.specs.Told.{Asked, Room};
 use crate::answer;
@@ -54,5 +54,57 @@ fn ask_row(
     Ordering {
         eligibility,
         read: all.read as u64,
+    }
+}
+
+// A refusal with one value, and no reference read.
+pub fn refused(number: u64, a: u64) -> Ordering
+    ensures { λ r. ⌜ r ≡ orderingOf (refusedAt (record { number = number; a = a; b = 0; c = 0; d = 0 })) ⌝ }
+{
+    Ordering {
+        eligibility: Eligibility::Refused(Refusal {
+            number,
+            a,
+            b: 0,
+            c: 0,
+            d: 0,
+        }),
+        read: 0,
+    }
+}
+
+// 50 where the segment has no row, else its answer.
+pub fn ask_held(
+    rows: &[u64],
+    edges: &[u64],
+    h: usize,
+    mode: OrderingMode,
+    segment: SegmentId,
+    history: &[u64],
+    completed: &[u64],
+    work: &mut [u64],
+    first: &mut [u64],
+    second: &mut [u64],
+) -> Ordering
+    requires { ⌜ Tabled (now rows) (now edges) h ⌝ }
+    requires { ⌜ Room (length (now work)) (length (now first)) (length (now second)) h (length (now edges)) ⌝ }
+    ensures { λ r. ⌜ Asked (ordering (heldSegments (now (rows .entry)) (now (edges .entry)) h) mode (segment .0) (now (history .entry)) (now (completed .entry))) r (now (first .entry)) (now (first .exit)) (now (second .entry)) (now (second .exit)) ⌝ }
+{
+    let found = words::find_row(rows, rules::HELD, h, segment.0);
+    match found {
+        Found::At(r) => ask_row(
+            rows,
+            edges,
+            h,
+            mode,
+            segment.0,
+            RowIndex(r),
+            history,
+            completed,
+            work,
+            first,
+            second,
+        ),
+        Found::Nothing => refused(50, segment.0),
     }
 }
