@@ -28,7 +28,7 @@ use Rattle.tabled.specs.Image.{Tabled}
 use Rattle.walk.proofs.ByParents.{row-at}
 use Rattle.walk.specs.declared.Ancestry.{Ancestry}
 use Rattle.walk.specs.Kept.{Listed}
-use Rattle.ordering.specs.Told.{Told, rowAnswer, prunedIn, remoteIn, incompleteIn, Asked}
+use Rattle.ordering.specs.Told.{Told, rowAnswer, prunedIn, remoteIn, incompleteIn, Replied}
 use Rattle.ordering.proofs.Found.{hit, has-row}
 use Rattle.ordering.proofs.Pruned.{pruned-are, remote-are, incomplete-are}
 
@@ -69,7 +69,7 @@ module _ (rows edges : List ℕ) (h : ℕ) (t : Tabled rows edges h) (mode : Ord
     pub asked-start : (r : ℕ) → f ≡ At r → (r < h) × (getD rows (r * heldWidth) 0 ≡ id)
     asked-start r e = row-found rows heldWidth h id r (sym is ∙ e)
 
-    pub asked-nothing : (o : Ordering) (first second : List ℕ) → f ≡ Nothing → o ≡ orderingOf (answered (unknown id)) → Asked (ordering S mode id history completed) o first first second second
+    pub asked-nothing : (o : Ordering) (first second : List ℕ) → f ≡ Nothing → o ≡ orderingOf (answered (unknown id)) → Replied (ordering S mode id history completed) o first first second second
     unfolding ordering
     asked-nothing o first second e q = rw (has-row rows edges h id ∙ ap hit (sym is ∙ e)) (record { answer-is = q; first-is = refl; second-is = refl })
 
@@ -85,7 +85,7 @@ module _ (rows edges : List ℕ) (h : ℕ) (t : Tabled rows edges h) (mode : Ord
 
     pub asked-row : r < h → (told : Eligibility) (first first′ second second′ : List ℕ)
         → Told (rowAnswer mode id (prunedIn rows h id (part w b (all .count))) (remoteIn history completed (part w b (all .count))) (incompleteIn history completed (part w b (all .count)))) told first first′ second second′
-        → Asked (ordering S mode id history completed) (record { eligibility = told; read = all .read }) first first′ second second′
+        → Replied (ordering S mode id history completed) (record { eligibility = told; read = all .read }) first first′ second second′
     asked-row below told first first′ second second′ a = go (subst Ended listed a)
       where
         Ended : List ℕ → Type 0
@@ -94,7 +94,7 @@ module _ (rows edges : List ℕ) (h : ℕ) (t : Tabled rows edges h) (mode : Ord
         read : all .read ≡ referencesRead S id
         read = l .read ∙ ap (referencesRead S) own
 
-        go : Ended (ancestors S id) → Asked (ordering S mode id history completed) (record { eligibility = told; read = all .read }) first first′ second second′
+        go : Ended (ancestors S id) → Replied (ordering S mode id history completed) (record { eligibility = told; read = all .read }) first first′ second second′
         go e =
             rw (← row-answer (known below))
             (record {

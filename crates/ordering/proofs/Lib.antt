@@ -3,3 +3,4 @@ pub mod Stretches
 pub mod Telling
 pub mod Pruned
 pub mod Asking
+pub mod Called

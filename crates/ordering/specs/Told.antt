@@ -38,7 +38,7 @@ pub record Told (a : ℕ → Answer) (told : Eligibility) (first first′ second
   pub second-is : (n : ℕ) → second′ ≡ front (secondOf (a n)) second
 
 -- the same with its count
-pub record Asked (a : Answer) (o : Ordering) (first first′ second second′ : List ℕ) : Type 0 where
+pub record Replied (a : Answer) (o : Ordering) (first first′ second second′ : List ℕ) : Type 0 where
   pub answer-is : o ≡ orderingOf (answered a)
   pub first-is : first′ ≡ firstAfter (answered a) first
   pub second-is : second′ ≡ secondAfter (answered a) second

@@ -2,9 +2,12 @@
 // and children of a segment as stretches of the held table itself.
 ghost use mathlib.Core.Path.{_≡_};
 ghost use mathlib.Core.Bool.{Bool};
-ghost use Rattle.rules.specs.Ordering.{permitsFlow, knownRule, parentStretch, childStretch};
+ghost use lib.ListN.{length};
+ghost use Rattle.rules.specs.Ordering.{query, orderingOf, firstAfter, secondAfter, orderWorkAfter, permitsFlow, knownRule, parentStretch, childStretch};
 use answers::Eligibility;
 use answers::Judged;
+use answers::Ordering;
+use types::records::OrderingMode;
 use types::records::RowIndex;
 use types::records::SegmentId;
 use words::Found;
@@ -12,6 +15,48 @@ use words::Found;
 mod answer;
 mod known;
 pub mod query;
+
+// May the segment be read, now that the segments of `history` were owned here and those of `completed` read to their end? The held tables
+// have h rows and g edge words. 51's list, or the incomplete ancestors, go to the front of the first list, remote ones to the second.
+pub fn ordering_eligibility(
+    rows: &[u64],
+    edges: &[u64],
+    h: usize,
+    g: usize,
+    mode: OrderingMode,
+    segment: SegmentId,
+    history: &[u64],
+    completed: &[u64],
+    work: &mut [u64],
+    first: &mut [u64],
+    second: &mut [u64],
+) -> Ordering
+    ensures { λ r. ⌜ r ≡ orderingOf (query (now (rows .entry)) (now (edges .entry)) h g mode (segment .0) (now (history .entry)) (now (completed .entry)) (record { work = length (now (work .entry)); first = now (first .entry); second = now (second .entry) })) ⌝ }
+    ensures { λ _. ⌜ now (first .exit) ≡ firstAfter (query (now (rows .entry)) (now (edges .entry)) h g mode (segment .0) (now (history .entry)) (now (completed .entry)) (record { work = length (now (work .entry)); first = now (first .entry); second = now (second .entry) })) (now (first .entry)) ⌝ }
+    ensures { λ _. ⌜ now (second .exit) ≡ secondAfter (query (now (rows .entry)) (now (edges .entry)) h g mode (segment .0) (now (history .entry)) (now (completed .entry)) (record { work = length (now (work .entry)); first = now (first .entry); second = now (second .entry) })) (now (second .entry)) ⌝ }
+    ensures { λ _. ⌜ now (work .exit) ≡ orderWorkAfter (query (now (rows .entry)) (now (edges .entry)) h g mode (segment .0) (now (history .entry)) (now (completed .entry)) (record { work = length (now (work .entry)); first = now (first .entry); second = now (second .entry) })) (now (work .entry)) ⌝ }
+{
+    if shape::tables::is_bad_held(rows, edges, h, g) {
+        return query::refused(1, 0);
+    }
+    if shape::room::lacks_room_to_order(work.len(), first.len(), second.len(), h, g) {
+        return query::refused(2, 0);
+    }
+    let answer = query::ask_held(
+        &rows[0..h * rules::HELD],
+        &edges[0..g],
+        h,
+        mode,
+        segment,
+        history,
+        completed,
+        work,
+        first,
+        second,
+    );
+    words::clear(work);
+    answer
+}
 
 // May the segment be read?
 pub fn permits_flow(answer: Eligibility) -> bool

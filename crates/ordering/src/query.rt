@@ -6,7 +6,7 @@ ghost use lib.ListN.{length, getD};
 ghost use Rattle.rules.specs.Tables.{heldWidth, heldSegments};
 ghost use Rattle.rules.specs.Ordering.{ordering, refusedAt, orderingOf};
 ghost use Rattle.tabled.specs.Image.{Tabled};
-ghost use Rattle.ordering.specs.Told.{Asked, Room};
+ghost use Rattle.ordering.specs.Told.{Replied, Room};
 use crate::answer;
 use answers::Eligibility;
 use answers::Ordering;
@@ -32,7 +32,7 @@ fn ask_row(
 ) -> Ordering
     requires { ⌜ Tabled (now rows) (now edges) h × (row .0 < h) × (getD (now rows) (row .0 * heldWidth) 0 ≡ id) ⌝ }
     requires { ⌜ Room (length (now work)) (length (now first)) (length (now second)) h (length (now edges)) ⌝ }
-    ensures { λ r. ⌜ Asked (ordering (heldSegments (now (rows .entry)) (now (edges .entry)) h) mode id (now (history .entry)) (now (completed .entry))) r (now (first .entry)) (now (first .exit)) (now (second .entry)) (now (second .exit)) ⌝ }
+    ensures { λ r. ⌜ Replied (ordering (heldSegments (now (rows .entry)) (now (edges .entry)) h) mode id (now (history .entry)) (now (completed .entry))) r (now (first .entry)) (now (first .exit)) (now (second .entry)) (now (second .exit)) ⌝ }
 {
     let g = edges.len();
     let b = 3 * h + 3 * g;
@@ -88,7 +88,7 @@ pub fn ask_held(
 ) -> Ordering
     requires { ⌜ Tabled (now rows) (now edges) h ⌝ }
     requires { ⌜ Room (length (now work)) (length (now first)) (length (now second)) h (length (now edges)) ⌝ }
-    ensures { λ r. ⌜ Asked (ordering (heldSegments (now (rows .entry)) (now (edges .entry)) h) mode (segment .0) (now (history .entry)) (now (completed .entry))) r (now (first .entry)) (now (first .exit)) (now (second .entry)) (now (second .exit)) ⌝ }
+    ensures { λ r. ⌜ Replied (ordering (heldSegments (now (rows .entry)) (now (edges .entry)) h) mode (segment .0) (now (history .entry)) (now (completed .entry))) r (now (first .entry)) (now (first .exit)) (now (second .entry)) (now (second .exit)) ⌝ }
 {
     let found = words::find_row(rows, rules::HELD, h, segment.0);
     match found {
