@@ -21,7 +21,7 @@ use Rattle.tabled.specs.Image.{Tabled}
 use Rattle.tabled.proofs.Cut.{cut-segments, cut-tabled}
 use Rattle.shape.proofs.Good.{held-fit, held-ascend, held-edges-fit, held-counts}
 use Rattle.shape.proofs.Enough.{enough-to-order}
-use Rattle.ordering.specs.Told.{Replied, Room}
+use Rattle.query.specs.Told.{Replied, Room}
 
 module _ (rows edges : List ℕ) (h g : ℕ) (mode : OrderingMode) (id : ℕ) (history completed : List ℕ) (lent : Lent) where
   module _ (x : Bool) (said : x ≡ badHeld rows edges h g) where

@@ -16,23 +16,7 @@ use Rattle.rules.specs.Model.{idsOf}
 use Rattle.rules.specs.Tables.{heldWidth, heldSegments}
 use Rattle.rules.specs.Shape.{badHeld}
 use Rattle.rules.specs.Ordering.{knownRule}
-use Rattle.tabled.proofs.ByRow.{ids-segments}
-
--- whether a search found something
-abbrev pub hit : Found → Bool
-hit Nothing = false
-hit (At r) = true
-
-has-from : (k x : ℕ) (l : List ℕ) → has x l ≡ hit (whereFrom k l x)
-has-from k x [] = refl
-has-from k x (y ∷ l) = go (has-from (suc k) x l) (eqb y x)
-  where
-    go : has x l ≡ hit (whereFrom (suc k) l x) → (t : Bool) → (t || has x l) ≡ hit (cond t (At k) (whereFrom (suc k) l x))
-    go ih true = refl
-    go ih false = ih
-
-pub has-row : (rows edges : List ℕ) (h x : ℕ) → has x (idsOf (heldSegments rows edges h)) ≡ hit (whereIs (ids rows heldWidth h) x)
-has-row rows edges h x = ap (has x) (ids-segments rows edges h) ∙ has-from 0 x (ids rows heldWidth h)
+use Rattle.tabled.proofs.HasRow.{hit, has-row}
 
 module _ (rows edges : List ℕ) (h x : ℕ) (f : Found) (is : f ≡ whereIs (ids rows heldWidth h) x) where
   row-known : (r : ℕ) → f ≡ At r → not (has x (idsOf (heldSegments rows edges h))) ≡ false

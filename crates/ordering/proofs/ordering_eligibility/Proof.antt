@@ -6,8 +6,8 @@ use Rattle.ordering.proofs.ordering_eligibility.Statement.{statement}
 use Rattle.ordering.proofs.ordering_eligibility.Tie as tie
 use Rattle.ordering.proofs.ordering_eligibility.Reads as reads
 use Rattle.ordering.proofs.ordering_eligibility.Lts as lts
-use Rattle.ordering.proofs.query.ask_held.Reads as ask-held-reads
-use Rattle.ordering.proofs.query.refused.Reads as refused-reads
+use Rattle.query.proofs.ask_held.Reads as ask-held-reads
+use Rattle.query.proofs.refused.Reads as refused-reads
 use Rattle.shape.proofs.room.lacks_room_to_order.Reads as lacks-room-to-order-reads
 use Rattle.shape.proofs.tables.is_bad_held.Reads as is-bad-held-reads
 use Rattle.words.proofs.clear.Reads as clear-reads

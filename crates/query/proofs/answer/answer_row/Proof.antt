@@ -1,15 +1,15 @@
 use native.Mathlib.Omega.{arith}
 use Rattle.words.specs.Part.{part}
 use Rattle.owned.proofs.Raising.{again-asks}
-use Rattle.ordering.specs.Told.{prunedIn, remoteIn, incompleteIn}
-use Rattle.ordering.proofs.Telling.{told-pruned, told-open, told-owned}
+use Rattle.query.specs.Told.{prunedIn, remoteIn, incompleteIn}
+use Rattle.query.proofs.Telling.{told-pruned, told-open, told-owned}
 use borrow.Author.Needs.{needs}
-use Rattle.ordering.proofs.answer.answer_row.Statement.{statement}
-use Rattle.ordering.proofs.answer.answer_row.Tie as tie
-use Rattle.ordering.proofs.answer.answer_row.Reads as reads
-use Rattle.ordering.proofs.answer.answer_row.Lts as lts
-use Rattle.ordering.proofs.answer.answer_open.Reads as answer-open-reads
-use Rattle.ordering.proofs.answer.list_pruned.Reads as list-pruned-reads
+use Rattle.query.proofs.answer.answer_row.Statement.{statement}
+use Rattle.query.proofs.answer.answer_row.Tie as tie
+use Rattle.query.proofs.answer.answer_row.Reads as reads
+use Rattle.query.proofs.answer.answer_row.Lts as lts
+use Rattle.query.proofs.answer.answer_open.Reads as answer-open-reads
+use Rattle.query.proofs.answer.list_pruned.Reads as list-pruned-reads
 use Rattle.owned.proofs.marks.mark_owned.Reads as mark-owned-reads
 
 -- src/answer.rt:121:9

@@ -1,4 +1,4 @@
-// The query over good tables, in a work area that need not be cleared and is left as it comes: a caller with many queries judges its tables
+// The ordering query of document 01 over good held tables, in a work area that need not be cleared and is left as it comes: a caller with many queries judges its tables
 // and clears its work area once.
 ghost use mathlib.Core.Path.{_≡_};
 ghost use Prim.Native.Nat.{_+_, _*_, _<_, _≤_};
@@ -6,8 +6,7 @@ ghost use lib.ListN.{length, getD};
 ghost use Rattle.rules.specs.Tables.{heldWidth, heldSegments};
 ghost use Rattle.rules.specs.Ordering.{ordering, refusedAt, orderingOf};
 ghost use Rattle.tabled.specs.Image.{Tabled};
-ghost use Rattle.ordering.specs.Told.{Replied, Room};
-use crate::answer;
+ghost use Rattle.query.specs.Told.{Replied, Room};
 use answers::Eligibility;
 use answers::Ordering;
 use answers::Refusal;
@@ -15,6 +14,8 @@ use types::records::OrderingMode;
 use types::records::RowIndex;
 use types::records::SegmentId;
 use words::Found;
+
+mod answer;
 
 // A segment that has a row. Its ancestors stand behind the walk's words, and their marks behind them.
 fn ask_row(

@@ -10,7 +10,7 @@ ghost use Rattle.words.specs.Table.{ids, Ascends};
 ghost use Rattle.types.specs.declared.records.OrderingMode.the-variants.{Strict, BrokerManaged};
 ghost use Rattle.rules.specs.Tables.{heldWidth};
 ghost use Rattle.owned.specs.Marks.{withMark};
-ghost use Rattle.ordering.specs.Told.{Told, openAnswer, rowAnswer, prunedIn, remoteIn, incompleteIn};
+ghost use Rattle.query.specs.Told.{Told, openAnswer, rowAnswer, prunedIn, remoteIn, incompleteIn};
 use answers::Eligibility;
 use types::records::OrderingMode;
 

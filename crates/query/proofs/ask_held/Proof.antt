@@ -1,11 +1,11 @@
-use Rattle.ordering.proofs.Asking.{asked-start, asked-nothing}
+use Rattle.query.proofs.Asking.{asked-start, asked-nothing}
 use borrow.Author.Needs.{needs}
-use Rattle.ordering.proofs.query.ask_held.Statement.{statement}
-use Rattle.ordering.proofs.query.ask_held.Tie as tie
-use Rattle.ordering.proofs.query.ask_held.Reads as reads
-use Rattle.ordering.proofs.query.ask_held.Lts as lts
-use Rattle.ordering.proofs.query.ask_row.Reads as ask-row-reads
-use Rattle.ordering.proofs.query.refused.Reads as refused-reads
+use Rattle.query.proofs.ask_held.Statement.{statement}
+use Rattle.query.proofs.ask_held.Tie as tie
+use Rattle.query.proofs.ask_held.Reads as reads
+use Rattle.query.proofs.ask_held.Lts as lts
+use Rattle.query.proofs.ask_row.Reads as ask-row-reads
+use Rattle.query.proofs.refused.Reads as refused-reads
 use Rattle.words.proofs.find_row.Reads as find-row-reads
 
 -- src/query.rt:93:9

@@ -28,9 +28,9 @@ use Rattle.tabled.specs.Image.{Tabled}
 use Rattle.walk.proofs.ByParents.{row-at}
 use Rattle.walk.specs.declared.Ancestry.{Ancestry}
 use Rattle.walk.specs.Kept.{Listed}
-use Rattle.ordering.specs.Told.{Told, rowAnswer, prunedIn, remoteIn, incompleteIn, Replied}
-use Rattle.ordering.proofs.Found.{hit, has-row}
-use Rattle.ordering.proofs.Pruned.{pruned-are, remote-are, incomplete-are}
+use Rattle.query.specs.Told.{Told, rowAnswer, prunedIn, remoteIn, incompleteIn, Replied}
+use Rattle.tabled.proofs.HasRow.{hit, has-row}
+use Rattle.query.proofs.Pruned.{pruned-are, remote-are, incomplete-are}
 
 -- an ascending list by its places
 place-in : (l : List ℕ) (q : ℕ) → q < length l → getD l q 0 ∈ l

@@ -1,12 +1,12 @@
 use Rattle.owned.specs.Marks.{withMark}
-use Rattle.ordering.proofs.Telling.{told-mode}
+use Rattle.query.proofs.Telling.{told-mode}
 use borrow.Author.Needs.{needs}
-use Rattle.ordering.proofs.answer.answer_open.Statement.{statement}
-use Rattle.ordering.proofs.answer.answer_open.Tie as tie
-use Rattle.ordering.proofs.answer.answer_open.Reads as reads
-use Rattle.ordering.proofs.answer.answer_open.Lts as lts
-use Rattle.ordering.proofs.answer.answer_managed.Reads as answer-managed-reads
-use Rattle.ordering.proofs.answer.answer_strict.Reads as answer-strict-reads
+use Rattle.query.proofs.answer.answer_open.Statement.{statement}
+use Rattle.query.proofs.answer.answer_open.Tie as tie
+use Rattle.query.proofs.answer.answer_open.Reads as reads
+use Rattle.query.proofs.answer.answer_open.Lts as lts
+use Rattle.query.proofs.answer.answer_managed.Reads as answer-managed-reads
+use Rattle.query.proofs.answer.answer_strict.Reads as answer-strict-reads
 
 -- src/answer.rt:78:63
 enum-told : tie.Need-enum-told

@@ -1,9 +1,9 @@
-use Rattle.ordering.proofs.Telling.{managed-blocked, managed-read, managed-eligible}
+use Rattle.query.proofs.Telling.{managed-blocked, managed-read, managed-eligible}
 use borrow.Author.Needs.{needs}
-use Rattle.ordering.proofs.answer.answer_managed.Statement.{statement}
-use Rattle.ordering.proofs.answer.answer_managed.Tie as tie
-use Rattle.ordering.proofs.answer.answer_managed.Reads as reads
-use Rattle.ordering.proofs.answer.answer_managed.Lts as lts
+use Rattle.query.proofs.answer.answer_managed.Statement.{statement}
+use Rattle.query.proofs.answer.answer_managed.Tie as tie
+use Rattle.query.proofs.answer.answer_managed.Reads as reads
+use Rattle.query.proofs.answer.answer_managed.Lts as lts
 use Rattle.owned.proofs.by_mark.list_marked.Reads as list-marked-reads
 
 -- src/answer.rt:53:9

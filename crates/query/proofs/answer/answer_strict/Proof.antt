@@ -1,10 +1,10 @@
 use Rattle.owned.specs.Marks.{withMark}
-use Rattle.ordering.proofs.Telling.{strict-barred, strict-blocked, strict-eligible}
+use Rattle.query.proofs.Telling.{strict-barred, strict-blocked, strict-eligible}
 use borrow.Author.Needs.{needs}
-use Rattle.ordering.proofs.answer.answer_strict.Statement.{statement}
-use Rattle.ordering.proofs.answer.answer_strict.Tie as tie
-use Rattle.ordering.proofs.answer.answer_strict.Reads as reads
-use Rattle.ordering.proofs.answer.answer_strict.Lts as lts
+use Rattle.query.proofs.answer.answer_strict.Statement.{statement}
+use Rattle.query.proofs.answer.answer_strict.Tie as tie
+use Rattle.query.proofs.answer.answer_strict.Reads as reads
+use Rattle.query.proofs.answer.answer_strict.Lts as lts
 use Rattle.owned.proofs.by_mark.list_marked.Reads as list-marked-reads
 
 -- src/answer.rt:29:9

@@ -3,12 +3,12 @@ use mathlib.Core.Path.{refl}
 use Rattle.lists.specs.Sets.{keep}
 use Rattle.words.specs.Part.{part}
 use Rattle.owned.specs.Marks.{rootOf}
-use Rattle.ordering.proofs.Telling.{put-one, put-rest, pruned-listed}
+use Rattle.query.proofs.Telling.{put-one, put-rest, pruned-listed}
 use borrow.Author.Needs.{needs}
-use Rattle.ordering.proofs.answer.list_pruned.Statement.{statement}
-use Rattle.ordering.proofs.answer.list_pruned.Tie as tie
-use Rattle.ordering.proofs.answer.list_pruned.Reads as reads
-use Rattle.ordering.proofs.answer.list_pruned.Lts as lts
+use Rattle.query.proofs.answer.list_pruned.Statement.{statement}
+use Rattle.query.proofs.answer.list_pruned.Tie as tie
+use Rattle.query.proofs.answer.list_pruned.Reads as reads
+use Rattle.query.proofs.answer.list_pruned.Lts as lts
 use Rattle.owned.proofs.by_mark.list_marked.Reads as list-marked-reads
 use Rattle.owned.proofs.roots.is_root.Reads as is-root-reads
 use Rattle.owned.proofs.roots.mark_roots.Reads as mark-roots-reads

@@ -30,8 +30,8 @@ use Rattle.tabled.specs.Image.{Tabled, segmentIn, segmentFound}
 use Rattle.tabled.proofs.ByRow.{lookup-found}
 use Rattle.walk.proofs.ByParents.{parents-none, parents-at}
 use Rattle.owned.specs.Marks.{statusOf, rootRow, rootFound, rootOf}
-use Rattle.ordering.specs.Told.{prunedIn, remoteIn, incompleteIn}
-use Rattle.ordering.proofs.Found.{hit, has-row}
+use Rattle.query.specs.Told.{prunedIn, remoteIn, incompleteIn}
+use Rattle.tabled.proofs.HasRow.{hit, has-row}
 
 -- ---- a row's words
 

@@ -1,13 +1,13 @@
 use Prim.Native.Nat.{_+_, _*_}
 use native.Mathlib.Omega.{arith}
 use lib.ListN.{length}
-use Rattle.ordering.proofs.Asking.{listed-up, asked-row}
+use Rattle.query.proofs.Asking.{listed-up, asked-row}
 use borrow.Author.Needs.{needs}
-use Rattle.ordering.proofs.query.ask_row.Statement.{statement}
-use Rattle.ordering.proofs.query.ask_row.Tie as tie
-use Rattle.ordering.proofs.query.ask_row.Reads as reads
-use Rattle.ordering.proofs.query.ask_row.Lts as lts
-use Rattle.ordering.proofs.answer.answer_row.Reads as answer-row-reads
+use Rattle.query.proofs.ask_row.Statement.{statement}
+use Rattle.query.proofs.ask_row.Tie as tie
+use Rattle.query.proofs.ask_row.Reads as reads
+use Rattle.query.proofs.ask_row.Lts as lts
+use Rattle.query.proofs.answer.answer_row.Reads as answer-row-reads
 use Rattle.walk.proofs.ancestors_of.Reads as ancestors-of-reads
 
 -- src/query.rt:38:13

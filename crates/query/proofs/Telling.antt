@@ -18,7 +18,7 @@ use Rattle.types.specs.declared.records.OrderingMode.the-variants.{Strict, Brok
 use Rattle.owned.specs.Marks.{Marked, rootOf, statusOf, withMark}
 use Rattle.owned.proofs.Raising.{part-kept}
 use Rattle.owned.proofs.Written.{with-keep}
-use Rattle.ordering.specs.Told.{Told, openAnswer, rowAnswer, remoteIn, incompleteIn}
+use Rattle.query.specs.Told.{Told, openAnswer, rowAnswer, remoteIn, incompleteIn}
 
 -- a list at the front, and how long it is
 abbrev pub Put : List ℕ → List ℕ → List ℕ → ℕ → Type 0
