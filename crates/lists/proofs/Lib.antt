@@ -2,7 +2,7 @@ pub mod Cases
 pub mod SortLaws
 pub mod RowOrder
 pub mod Sums
-pub mod SortMap
 pub mod SetLaws
 pub mod HasAt
 pub mod Tests
+pub mod SortMap

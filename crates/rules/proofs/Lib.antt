@@ -15,3 +15,5 @@ pub mod Taken
 pub mod Accepts
 pub mod TableIds
 pub mod HeldSegments
+pub mod Places
+pub mod Decode

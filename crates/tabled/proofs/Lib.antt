@@ -1,1 +1,3 @@
 pub mod ByRow
+pub mod Cut
+pub mod HasRow

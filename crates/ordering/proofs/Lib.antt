@@ -1,0 +1,3 @@
+pub mod Found
+pub mod Stretches
+pub mod Called
