@@ -1,8 +1,8 @@
 -- What an accepted layout leaves: held tables that pass refusal 1, of segments that demand 3 speaks of; whether the judge accepted it or an update.
 -- By the chain of checks that let it pass, link by link. Assumes nothing.
-use Prim.Native.Nat.{ℕ, _/_, _≤_}
+use Prim.Native.Nat.{ℕ, _/_}
 use native.Mathlib.Omega.{arith}
-use mathlib.Core.Path.{_≡_, refl, sym, ap, _∙_}
+use mathlib.Core.Path.{_≡_, refl}
 use mathlib.Core.Bool.{Bool, true, false, _||_}
 use mathlib.Core.List.{List}
 use lib.ListN.{length}
@@ -15,13 +15,13 @@ use Rattle.answers.proofs.Judging.{or-left}
 use Rattle.types.specs.declared.limits.DagLimits.{DagLimits}
 use Rattle.types.specs.declared.records.Session.{Session}
 use Rattle.types.specs.declared.records.Update.{Update}
-use Rattle.rules.specs.Model.{Segment, byId}
+use Rattle.rules.specs.Model.{Segment}
 use Rattle.rules.specs.Tables.{rowWidth, placeWidth, heldSegments}
 use Rattle.rules.specs.Shape.{badLayout, badHeld}
 use Rattle.rules.specs.Room.{noRoomToJudge, noRoomToUpdate}
 use Rattle.rules.specs.Layout.{layoutRule}
 use Rattle.rules.specs.Judge.{Tables, Areas, segmentsIn, placementsIn, judgement, filled}
-use Rattle.rules.specs.Update.{Changes, heldCount, heldEdgeCount, Went, refusedBefore, stale, judged, addressRule, isStale, replaceRule, wentAfter, went, updatedOf, heldBefore, sessionWith, sessionAfter, ifAccepted, updateAfter}
+use Rattle.rules.specs.Update.{Changes, heldCount, heldEdgeCount, Went, refusedBefore, stale, judged, addressRule, isStale, replaceRule, wentAfter, went, updatedOf, heldBefore, updateAfter}
 use Rattle.rules.specs.Reading.{Accepted}
 use Rattle.rules.proofs.Accepts.{then-both, when-passed, rows-once, layout-passes, layout-accepted}
 use Rattle.demand.specs.Demand.{HeldTables, heldIn, Left, byJudge, byUpdate}

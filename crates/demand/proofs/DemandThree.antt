@@ -1,28 +1,25 @@
--- Demand 3 of the public calls (demand-three), and that a reading which completes all that were named exists (reading-ends).
+-- Demand 3 of the public calls (demand-three), that a reading goes on with any segment that may be read (any-next), and ends (reading-ends).
 -- On tables that an acceptance left the call, lent its room, answers by the rule over their segments (answered-is); there the rule book's own
 -- demand 3 holds, and answer and lists tell the rule's answer. Assumes nothing.
-use Prim.Native.Nat.{ℕ, suc, _+_, _<_}
+use Prim.Native.Nat.{ℕ, suc}
 use native.Mathlib.Omega.{arith}
-use mathlib.Core.Path.{_≡_, refl, sym, ap, _∙_}
-use mathlib.Core.Bool.{true, false}
+use mathlib.Core.Path.{_≡_, refl, sym, ap, subst, _∙_}
+use mathlib.Core.Bool.{true}
 use mathlib.Core.List.{List, _∷_}
 use lib.ListN.{length, take, drop}
 use lib.Seq.{take-at}
-use Rattle.lists.specs.Lists.{has, front, _∈_, _∉_}
-use Rattle.lists.specs.Sets.{Ascending}
+use Rattle.lists.specs.Lists.{front, _∈_, _∉_}
 use Rattle.answers.specs.declared.Eligibility.the-variants as E
 use Rattle.types.specs.declared.records.OrderingMode.{OrderingMode}
 use Rattle.rules.specs.Model.{Segment}
 use Rattle.rules.specs.Tables.{heldSegments}
-use Rattle.rules.specs.Shape.{badHeld}
-use Rattle.rules.specs.Room.{noRoomToOrder}
-use Rattle.rules.specs.Ancestors.{Ancestor}
 use Rattle.rules.specs.Ordering as Rule
 use Rattle.rules.specs.Ordering.{Answer, unknown, unprovable, blocked, eligible, managed, ordering, toldOf, firstOf, secondOf, readOf, Lent, Asked, answered, queryRule, query, orderingOf, firstAfter, secondAfter, permitsFlow}
 use Rattle.rules.specs.Reading as Rules
-use Rattle.rules.specs.Reading.{Grows, uncompleted}
+use Rattle.rules.specs.Reading.{uncompleted}
+use Rattle.rules.proofs.NoDeadEnd as Theory
 use Rattle.rules.proofs.NoDeadEnd.{no-dead-end, named-ascending, only-ancestors-count}
-use Rattle.demand.specs.Demand.{HeldTables, Left, Room, asked, MayRead, BlockedBy, namedIn, remoteIn, countIn, Blocked, Reading, begin, complete, other, Proceeds, Ends, NoDeadEnd, Same, OnlyAncestorsCount, DemandThree}
+use Rattle.demand.specs.Demand.{HeldTables, Room, asked, MayRead, BlockedBy, namedIn, remoteIn, countIn, Blocked, Reading, begin, complete, other, Proceeds, Ends, NoDeadEnd, OnlyAncestorsCount, DemandThree}
 use Rattle.demand.proofs.Acceptance.{Sound, left-sound}
 
 -- ---- an answer by value tells which answer of the rule it is
@@ -80,35 +77,62 @@ module _ (T : HeldTables) (sound : Sound T) where
           second = ap (λ (x : Asked). secondAfter x (lent .second)) q;
         }
 
+    -- a blocked answer, as the rule's, of the ids that the lists name
+    to-blocked : (c : ℕ) (completed : List ℕ) (lent : Lent) (k m : ℕ) → Room T lent → BlockedBy T mode history c completed lent k m
+        → (ordering S mode c history completed ≡ blocked (namedIn T mode history c completed lent k) (remoteIn T mode history c completed lent m) (countIn T mode history c completed lent))
+        × (length (namedIn T mode history c completed lent k) ≡ k)
+    to-blocked c completed lent k m room told =
+        let a : Answer = ordering S mode c history completed in
+        let q : asked T mode history c completed lent ≡ answered a = answered-is c completed lent room in
+        let b = is-blocked a k m (rw q at told) in
+        let named : namedIn T mode history c completed lent k ≡ firstOf a = ap (λ (x : Asked). take k (firstAfter x (lent .first))) q ∙ written (firstOf a) (lent .first) k (b .1) in
+        let remotes : remoteIn T mode history c completed lent m ≡ secondOf a = ap (λ (x : Asked). take m (secondAfter x (lent .second))) q ∙ written (secondOf a) (lent .second) m (b .2) in
+        let count : countIn T mode history c completed lent ≡ readOf a = ap (λ (x : Asked). orderingOf x .read) q in
+        (b .0 ∙ (λ i. blocked (sym named i) (sym remotes i) (sym count i)), ap length named ∙ b .1)
+
+    -- a reading by the call is one by the rule, and the other way round
     reading-rule : {named d : List ℕ} {j : ℕ} {e : List ℕ} → Reading T mode history named d j e → Rules.Reading S mode history named d j e
     reading-rule begin = Rules.begin
     reading-rule (complete {e = e} m lent r i k room u g q o) = Rules.complete m (reading-rule r) i k (to-rule m e lent room u) g q o
     reading-rule (other r g o) = Rules.other (reading-rule r) g o
 
-    module _ (c : ℕ) (d named remotes : List ℕ) (n : ℕ) (b : ordering S mode c history d ≡ blocked named remotes n) where
-      proceeds : (j : ℕ) (e : List ℕ) → Reading T mode history named d j e → Proceeds T mode history c named remotes n (length named) j e
+    rule-reading : (lent : Lent) → Room T lent → {named d : List ℕ} {j : ℕ} {e : List ℕ} → Rules.Reading S mode history named d j e → Reading T mode history named d j e
+    rule-reading lent room Rules.begin = begin
+    rule-reading lent room (Rules.complete {e = e} m r i k u g q o) = complete m lent (rule-reading lent room r) i k room (from-rule m e lent room u) g q o
+    rule-reading lent room (Rules.other r g o) = other (rule-reading lent room r) g o
+
+    -- whichever named, uncompleted, readable segment is completed next, the reading goes on with it
+    pub any-next : (named d e : List ℕ) (j m : ℕ) (lent : Lent) → Room T lent → Reading T mode history named d j e → m ∈ named → m ∉ e → MayRead T mode history m e lent
+        → Reading T mode history named d (suc j) (m ∷ e)
+    any-next named d e j m lent room r i k u = rule-reading lent room (Theory.any-next S mode history named d e j m (reading-rule r) i k (to-rule m e lent room u))
+
+    module _ (c : ℕ) (d named remotes : List ℕ) (n k : ℕ) (b : ordering S mode c history d ≡ blocked named remotes n) (many : length named ≡ k) where
+      proceeds : (j : ℕ) (e : List ℕ) → Reading T mode history named d j e → Proceeds T mode history c named remotes n k j e
       proceeds j e r =
           let p = no-dead-end S (sound .accepted) mode c history d named remotes n b j e (reading-rule r) in
           record {
-            left = p .left;
-            next = λ h. let m = p .next h in (m .0, m .1, m .2, λ lent room. from-rule (m .0) e lent room (m .3));
-            stays = λ h lent room. from-blocked c e lent (uncompleted named e) remotes n room (p .stays h);
-            reads = λ h lent room. from-rule c e lent room (p .reads h);
+            left = p .left ∙ many;
+            next = λ h. let m = p .next (omega arith) in (m .0, m .1, m .2, λ lent room. from-rule (m .0) e lent room (m .3));
+            stays = λ h lent room. from-blocked c e lent (uncompleted named e) remotes n room (p .stays (omega arith));
+            reads = λ h lent room. from-rule c e lent room (p .reads (h ∙ sym many));
           }
 
-      ends : Ends T mode history c d named remotes n (length named)
-      ends = record { many = refl; ascends = named-ascending S mode c history d named remotes n b; proceeds = proceeds }
+      ends : Ends T mode history c d named remotes n k
+      ends = record { many = many; ascends = named-ascending S mode c history d named remotes n b; proceeds = proceeds }
 
   -- no reading order comes to a dead end
   pub never-stuck : NoDeadEnd T
   never-stuck mode history c d lent room k m told =
-      let a : Answer = ordering S mode c history d in
-      let q : asked T mode history c d lent ≡ answered a = answered-is mode history c d lent room in
-      let b = is-blocked a k m (rw q at told) in
-      let named : namedIn T mode history c d lent k ≡ firstOf a = ap (λ (x : Asked). take k (firstAfter x (lent .first))) q ∙ written (firstOf a) (lent .first) k (b .1) in
-      let remotes : remoteIn T mode history c d lent m ≡ secondOf a = ap (λ (x : Asked). take m (secondAfter x (lent .second))) q ∙ written (secondOf a) (lent .second) m (b .2) in
-      let count : countIn T mode history c d lent ≡ readOf a = ap (λ (x : Asked). orderingOf x .read) q in
-      rw (named, remotes, count, ← b .1) (ends mode history c d (firstOf a) (secondOf a) (readOf a) (b .0))
+      let b = to-blocked mode history c d lent k m room told in
+      ends mode history c d (namedIn T mode history c d lent k) (remoteIn T mode history c d lent m) (countIn T mode history c d lent) k (b .0) (b .1)
+
+  -- and there is one that completes all
+  pub reading-ends : (mode : OrderingMode) (history : List ℕ) (c : ℕ) (d : List ℕ) (lent : Lent) → Room T lent → (k m : ℕ) → BlockedBy T mode history c d lent k m
+      → (e : List ℕ) × Reading T mode history (namedIn T mode history c d lent k) d k e × MayRead T mode history c e lent
+  reading-ends mode history c d lent room k m told =
+      let b = to-blocked mode history c d lent k m room told in
+      let r = Theory.reading-ends S (sound .accepted) mode c history d (namedIn T mode history c d lent k) (remoteIn T mode history c d lent m) (countIn T mode history c d lent) (b .0) in
+      (r .0, subst (λ (j : ℕ). Reading T mode history (namedIn T mode history c d lent k) d j (r .0)) (b .1) (rule-reading mode history lent room (r .1)), from-rule mode history c (r .0) lent room (r .2))
 
   -- ids that are not ancestors change nothing
   pub others-change-nothing : OnlyAncestorsCount T

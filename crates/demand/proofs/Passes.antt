@@ -9,7 +9,7 @@ use mathlib.Core.Bool.{Bool, true, false, not, _||_}
 use mathlib.Core.Option.{Option, none, some}
 use mathlib.Core.List.{List, [], _∷_, _++_, map, append-assoc}
 use borrow.Author.Tests.{lt-ltb, le-ltb, eq-eqb}
-use lib.Dec.{eqb, ltb}
+use lib.Dec.{eqb}
 use lib.ListN.{length, getD, drop, length-append}
 use lib.Seq.{getD-append-add}
 use Rattle.lists.specs.Lists.{front}
@@ -21,7 +21,7 @@ use Rattle.answers.proofs.Judging.{or-left, or-right}
 use Rattle.types.specs.declared.limits.DagLimits.{DagLimits}
 use Rattle.rules.specs.Model.{Head, Segment, Site, Placement, Held, idsOf, idLe, byId, heldOf}
 use Rattle.rules.specs.Tables.{rowWidth, heldWidth, headWidth, headAt, parentsAt, childrenAt, segmentsFrom, heldSegments, optionWords, headWords, siteWords, heldWords, rowsOf, edgesFrom, heldRows, heldEdges}
-use Rattle.rules.specs.Shape.{badFlag, badHash, badHead, badPlace, badHeldRow, anyBad, wrongCounts, badTable, badLayout, badHeldRows, badHeld}
+use Rattle.rules.specs.Shape.{badFlag, badHash, badHead, badHeldRow, anyBad, wrongCounts, badTable, badLayout, badHeldRows, badHeld}
 use Rattle.rules.specs.Judge.{Tables, Areas, segmentsIn, placementsIn, filled}
 use Rattle.rules.proofs.Decode.{head-length, held-length}
 use Rattle.rules.proofs.Ascended.{length-byId}

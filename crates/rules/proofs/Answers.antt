@@ -36,7 +36,7 @@ module _ (S : List Segment) (c : ℕ) (history history′ : List ℕ) (h : (x : 
     same-answer mode = rw (remote-same, incomplete-same) refl
 
 -- the same, an id at a time
-has-other : (x y : ℕ) (l : List ℕ) → (y ≡ x → ⊥) → has x (y ∷ l) ≡ has x l
+pub has-other : (x y : ℕ) (l : List ℕ) → (y ≡ x → ⊥) → has x (y ∷ l) ≡ has x l
 has-other x y l n = rw (ne-eqb y x n) refl
 
 apart : (S : List Segment) (c y : ℕ) → y ∉ ancestors S c → (x : ℕ) → x ∈ ancestors S c → y ≡ x → ⊥
