@@ -15,5 +15,3 @@ pub mod Taken
 pub mod Accepts
 pub mod TableIds
 pub mod HeldSegments
-pub mod Places
-pub mod Decode
