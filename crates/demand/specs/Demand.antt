@@ -65,10 +65,11 @@ module _ (T : HeldTables) (mode : OrderingMode) (history : List ℕ) where
   abbrev pub MayRead : ℕ → List ℕ → Lent → Type 0
   MayRead c completed lent = permitsFlow (orderingOf (asked c completed lent) .eligibility) ≡ true
 
-  -- "blocked, naming k segments as incomplete (remote ones are not counted)": the words at the front of the two lists
+  -- "blocked, naming k segments as incomplete (remote ones are not counted)"
   abbrev pub BlockedBy : ℕ → List ℕ → Lent → ℕ → ℕ → Type 0
   BlockedBy c completed lent k m = orderingOf (asked c completed lent) .eligibility ≡ E.Blocked k m
 
+  -- those k, the m remote ones, and the count of references, as the call leaves them
   abbrev pub namedIn : ℕ → List ℕ → Lent → ℕ → List ℕ
   namedIn c completed lent k = take k (firstAfter (asked c completed lent) (lent .first))
 
