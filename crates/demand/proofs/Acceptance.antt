@@ -21,7 +21,7 @@ use Rattle.rules.specs.Shape.{badLayout, badHeld}
 use Rattle.rules.specs.Room.{noRoomToJudge, noRoomToUpdate}
 use Rattle.rules.specs.Layout.{layoutRule}
 use Rattle.rules.specs.Judge.{Tables, Areas, segmentsIn, placementsIn, judgement, filled}
-use Rattle.rules.specs.Update.{Changes, heldCount, heldEdgeCount, Went, refusedBefore, stale, judged, addressRule, isStale, replaceRule, wentAfter, went, updatedOf, heldBefore, updateAfter}
+use Rattle.rules.specs.Update.{Changes, heldCount, heldEdgeCount, Went, refusedBefore, stale, judged, addressRule, isStale, badTables, shortToUpdate, replaceRule, wentAfter, went, updatedOf, heldBefore, updateAfter}
 use Rattle.rules.specs.Reading.{Accepted}
 use Rattle.rules.proofs.Accepts.{then-both, when-passed, rows-once, layout-passes, layout-accepted}
 use Rattle.demand.specs.Demand.{HeldTables, heldIn, Left, byJudge, byUpdate}
@@ -80,17 +80,11 @@ module _ (s : Session) (u : Update) (limits : DagLimits) (t : Tables) (work : Li
   accepted = was-accepted (went s u limits t (length work) a c) (u .epoch) (heldBefore s a) (segmentsIn t) d e
 
   passed : (badLayout (t .rows) (t .edges) (t .places) ≡ false) × (layoutRule (u .epoch) (u .size) limits (segmentsIn t) (placementsIn t) ≡ J.Accepted)
-  unfolding went replaceRule
+  unfolding went replaceRule badTables
   passed =
-      let n : ℕ = length (t .rows) / rowWidth in
-      let p : ℕ = length (t .places) / placeWidth in
-      let bad : Bool = badHeld (a .held) (a .links) (heldCount s) (heldEdgeCount s) in
       let j : replaceRule s u limits t (length work) a c ≡ J.Accepted = was-judged (addressRule s u) (replaceRule s u limits t (length work) a c) (isStale s u) accepted in
-      let r =
-      past-two (badLayout (t .rows) (t .edges) (t .places) || bad)
-      (noRoomToUpdate (length work) (length (a .held)) (length (a .links)) (length (a .order)) (length (c .added)) (length (c .removed)) (length (c .splits)) (length (c .merges)) n p (length (t .edges)) (heldCount s))
-      (layoutRule (u .epoch) (u .size) limits (segmentsIn t) (placementsIn t)) j in
-      (or-left (badLayout (t .rows) (t .edges) (t .places)) bad (r .0), r .1)
+      let r = past-two (badTables s t a) (shortToUpdate s t (length work) a c) (layoutRule (u .epoch) (u .size) limits (segmentsIn t) (placementsIn t)) j in
+      (or-left (badLayout (t .rows) (t .edges) (t .places)) (badHeld (a .held) (a .links) (heldCount s) (heldEdgeCount s)) (r .0), r .1)
 
   update-sound : Sound (heldIn (updateAfter s u limits t work a c .areas) (heldCount (updateAfter s u limits t work a c .session)) (heldEdgeCount (updateAfter s u limits t work a c .session)))
   unfolding updateAfter
