@@ -24,7 +24,7 @@ use Rattle.tabled.specs.Image.{Image, segmentIn, imageRows, imageEdges, imageSe
 use Rattle.tabled.proofs.ByRow.{segments-length, segments-at}
 use Rattle.delta.specs.Tables.{known}
 use Rattle.delta.specs.Pairs.{kindOf, pairOf, rowPairs, pairsOf, Placed}
-use Rattle.delta.proofs.Kept.{before-at, part-kept}
+use Rattle.tabled.proofs.Kept.{word-kept, part-kept}
 use Rattle.delta.proofs.Placing.{placed-none, placed-then, known-few}
 
 -- ---- the pairs of rows
@@ -103,7 +103,7 @@ module _ (merge : Bool) (u w₀ w : List ℕ) (n e at from k i : ℕ) (p : Gathe
     same : (j : ℕ) → j < heldWidth → getD w (row + j) 0 ≡ getD R (row + j) 0
     same j h =
         let q : row + j < n * heldWidth = omega arith in
-        before-at w₀ w at (p .placed .kept) (row + j) (omega arith) ∙ sym (rw zero-add at (part-at w₀ 0 (n * heldWidth) (row + j) q))
+        word-kept w w₀ at (p .placed .kept) (row + j) (omega arith) ∙ sym (rw zero-add at (part-at w₀ 0 (n * heldWidth) (row + j) q))
 
     first : getD w row 0 ≡ getD R row 0
     first = let z : row + 0 ≡ row = omega arith in rw z at (same 0 (omega arith))
@@ -132,7 +132,7 @@ module _ (merge : Bool) (u w₀ w : List ℕ) (n e at from k i : ℕ) (p : Gathe
         let c : ℕ = parentsAt R row in
         let q : s + c ≤ e = omega (arith, edges-room, same 9 (omega arith)) in
         let z : s + c - s ≡ c = omega arith in
-        rw (same 9 (omega arith), p .here, part-kept w₀ w at (p .placed .kept) (n * heldWidth + s) c (omega arith), z)
+        rw (same 9 (omega arith), p .here, part-kept w w₀ at (p .placed .kept) (n * heldWidth + s) c (omega arith), z)
         (sym (part-in w₀ (n * heldWidth) e s c q))
 
     pub gathered-next : (w′ : List ℕ) (r : ℕ) → Placed w w′ at k r (rowPairs merge u (getD w row 0) (part w from (getD w (row + 9) 0)))

@@ -1,6 +1,5 @@
 pub mod Listed
 pub mod Summed
-pub mod Kept
 pub mod Placing
 pub mod Gathered
 pub mod Sorting

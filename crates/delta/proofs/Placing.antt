@@ -23,7 +23,7 @@ use Rattle.rules.specs.Delta.{Pair}
 use Rattle.delta.specs.Tables.{known}
 use Rattle.delta.specs.Pairs.{kindOf, wanted, pairOf, rowPairs, rowOf, rowsAt, Placed}
 use Rattle.delta.proofs.Listed.{keep-append}
-use Rattle.delta.proofs.Kept.{before-at}
+use Rattle.tabled.proofs.Kept.{word-kept}
 
 -- ---- nothing, one behind the other, one pair
 
@@ -123,7 +123,7 @@ module _ (u w₀ w : List ℕ) (from count at k r j child : ℕ) (merge : Bool) 
     parents-next w′ s q =
         let l : List ℕ = part w₀ from count in
         let n : j < length l = rw (part-length w₀ from count (omega arith)) below in
-        let x : getD w (from + j) 0 ≡ getD l j 0 = before-at w₀ w at (p .kept) (from + j) (omega arith) ∙ sym (part-at w₀ from count j below) in
+        let x : getD w (from + j) 0 ≡ getD l j 0 = word-kept w w₀ at (p .kept) (from + j) (omega arith) ∙ sym (part-at w₀ from count j below) in
         let more : known (take (j + 1) l) u ≡ known (take j l) u ++ known (getD w (from + j) 0 ∷ []) u = rw x (known-more u l j n) in
         let all : map (pairOf merge child) (known (take (j + 1) l) u) ≡ map (pairOf merge child) (known (take j l) u) ++ map (pairOf merge child) (known (getD w (from + j) 0 ∷ []) u) =
         ap (map (pairOf merge child)) more ∙ map-append (pairOf merge child) (known (take j l) u) (known (getD w (from + j) 0 ∷ []) u) in

@@ -23,7 +23,7 @@ use Rattle.tabled.specs.Image.{Image, imageRows, imageEdges, imageSegments}
 use Rattle.tabled.proofs.ByRow.{ids-segments}
 use Rattle.delta.specs.Tables.{Rows, idsIn, lacking, bare}
 use Rattle.delta.specs.Changed.{removedFrom, splitsFrom, mergesFrom, deltaFrom}
-use Rattle.delta.proofs.Kept.{segments-kept}
+use Rattle.tabled.proofs.Kept.{segments-kept}
 use Rattle.delta.proofs.Summed.{widths-any, handed-any}
 
 pub added-lacking : (u : List ℕ) (ss : List Segment) → idsOf (addedFrom u ss) ≡ lacking (idsOf ss) u
@@ -91,10 +91,10 @@ module _ (w : List ℕ) (n e : ℕ) (image : Image w n e) where
 -- w₁ is what the split pairs left of w
 module _ (w w₁ u : List ℕ) (n e at : ℕ) (room : n * heldWidth + e ≤ at) (kept : take at w₁ ≡ take at w) where
   pub told-merges : (out₀ out : List ℕ) → out ≡ front (pairWords (mergesFrom u (imageSegments w₁ n e))) out₀ → out ≡ front (pairWords (mergesFrom u (imageSegments w n e))) out₀
-  told-merges out₀ out said = said ∙ ap (λ (ss : List Segment). front (pairWords (mergesFrom u ss)) out₀) (segments-kept w w₁ at kept n e room)
+  told-merges out₀ out said = said ∙ ap (λ (ss : List Segment). front (pairWords (mergesFrom u ss)) out₀) (segments-kept w₁ w at kept n e room)
 
   pub told-count : (r : ℕ) → r ≡ length (mergesFrom u (imageSegments w₁ n e)) → r ≡ length (mergesFrom u (imageSegments w n e))
-  told-count r said = said ∙ ap (λ (ss : List Segment). length (mergesFrom u ss)) (segments-kept w w₁ at kept n e room)
+  told-count r said = said ∙ ap (λ (ss : List Segment). length (mergesFrom u ss)) (segments-kept w₁ w at kept n e room)
 
   pub told-kept : (w₂ : List ℕ) → take at w₂ ≡ take at w₁ → take at w₂ ≡ take at w
   told-kept w₂ e = e ∙ kept

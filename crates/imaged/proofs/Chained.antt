@@ -16,7 +16,7 @@ use Rattle.rules.specs.Order.{Ordered, inOrder, tooDeep, cyclic, orderedRule, o
 use Rattle.rules.specs.Tiling.{forksFrom, joinsFrom, activeOf, coverageRule}
 use Rattle.tabled.specs.Image.{imageSegments}
 use Rattle.ordered.specs.Left.{OrderLeft}
-use Rattle.transitions.proofs.Kept.{part-kept, segments-kept}
+use Rattle.tabled.proofs.Kept.{part-kept, segments-kept}
 use Rattle.imaged.specs.Asked.{behind}
 use Rattle.imaged.specs.Judging.{orderIn, rangesIn, graphIn}
 use Rattle.imaged.proofs.Front.{front-less}

@@ -25,7 +25,7 @@ use Rattle.lookups.specs.Sides.{side, sidesFrom, pairIndex}
 use Rattle.lookups.proofs.Linked.{index-ordered, linked-index, distinct}
 use Rattle.lookups.proofs.Counted.{sides-both}
 use Rattle.edges.specs.Links.{Tells}
-use Rattle.transitions.proofs.Kept.{part-kept, segments-kept, image-kept}
+use Rattle.tabled.proofs.Kept.{part-kept, segments-kept, image-kept}
 use Rattle.imaged.specs.Asked.{behind, Imaged, Indexed, Paired}
 use Rattle.imaged.proofs.Front.{front-less}
 

@@ -17,7 +17,7 @@ use Rattle.rules.specs.Order.{orderOf, orderRule, orderWords}
 use Rattle.rules.specs.Tiling.{transitionsRule, activeOf, coverageRule}
 use Rattle.tabled.specs.Image.{Image, imageRows, imageEdges, imageSegments}
 use Rattle.tabled.proofs.ByRow.{segments-length}
-use Rattle.transitions.proofs.Kept.{segments-kept, image-kept}
+use Rattle.tabled.proofs.Kept.{segments-kept, image-kept}
 use Rattle.imaged.specs.Asked.{behind, Imaged, Graphed}
 use Rattle.imaged.specs.Judging.{orderIn, graphIn}
 use Rattle.imaged.proofs.Closing.{closed}

@@ -15,7 +15,7 @@ use Rattle.rules.specs.Model.{Segment, Placement}
 use Rattle.rules.specs.Tables.{rowWidth, heldWidth, placeWidth, segments, placements}
 use Rattle.rules.specs.Order.{orderOf, orderWords}
 use Rattle.rules.specs.Layout.{graphRule, layoutRule}
-use Rattle.transitions.proofs.Kept.{rows-kept, edges-kept, segments-kept, image-kept}
+use Rattle.tabled.proofs.Kept.{rows-kept, edges-kept, segments-kept, image-kept}
 use Rattle.incoming.specs.Incoming.{incomingRule, Given}
 use Rattle.incoming.proofs.Chains.{layout-is, incoming-empty}
 use Rattle.incoming.proofs.Counts.{segments-count}

@@ -17,7 +17,8 @@ use Rattle.rules.specs.Tiling.{forkRule, forksFrom, joinRule, joinsFrom}
 use Rattle.rules.proofs.Places.{start-next}
 use Rattle.tabled.specs.Image.{Image, imageRows, imageSegments}
 use Rattle.transitions.specs.Edged.{segmentOf, Edged}
-use Rattle.transitions.proofs.Kept.{rows-kept, segments-kept, segment-kept, image-kept}
+use Rattle.tabled.proofs.Kept.{rows-kept, segments-kept, image-kept}
+use Rattle.transitions.proofs.Kept.{segment-kept}
 use Rattle.transitions.proofs.Edges.{row-room, edges-room}
 use Rattle.transitions.proofs.Rowed.{parents-word, children-word, segments-drop, segments-done}
 

@@ -19,7 +19,8 @@ use Rattle.rules.specs.Tiling.{rangeOf, rangeFound, rangesOf, activeOf}
 use Rattle.tabled.specs.Image.{Image, imageSegments}
 use Rattle.transitions.specs.Ranges.{ranges, rangeAt, Grown, activeOne}
 use Rattle.transitions.specs.Edged.{segmentOf}
-use Rattle.transitions.proofs.Kept.{word-kept, segments-kept, segment-kept, image-kept}
+use Rattle.tabled.proofs.Kept.{word-kept, segments-kept, image-kept}
+use Rattle.transitions.proofs.Kept.{segment-kept}
 use Rattle.transitions.proofs.Rowed.{row-word, range-row, segments-drop, segments-done}
 
 -- w₀ became w, with k ranges from `at` on where i things are passed: they are all of `all` but those of the rest

@@ -1,6 +1,6 @@
 -- `delta::write_paired` meets its contract: the split pairs leave the image as it was, so the merge pairs are those of the same segments.
 -- Assumes nothing.
-use Rattle.delta.proofs.Kept.{image-kept}
+use Rattle.tabled.proofs.Kept.{image-kept}
 use Rattle.delta.proofs.Told.{told-merges, told-count, told-kept}
 use borrow.Author.Needs.{needs}
 use Rattle.delta.proofs.write_paired.Statement.{statement}

@@ -1,6 +1,6 @@
 -- `judge_transitions` is the forks and then the joins: the first pass leaves the image as it was.
 -- Assumes nothing.
-use Rattle.transitions.proofs.Kept.{image-kept}
+use Rattle.tabled.proofs.Kept.{image-kept}
 use Rattle.transitions.proofs.Passing.{both, kept-twice}
 use Rattle.answers.proofs.Judging.{then-same}
 use borrow.Author.Needs.{needs}

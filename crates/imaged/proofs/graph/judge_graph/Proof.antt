@@ -1,7 +1,7 @@
 -- `judge_graph` is the order and then the ranges, which are placed behind the order list, so that it stays.
 -- Assumes nothing.
 use Rattle.answers.proofs.Judging.{then-same}
-use Rattle.transitions.proofs.Kept.{image-kept}
+use Rattle.tabled.proofs.Kept.{image-kept}
 use Rattle.imaged.proofs.Chained.{graph-both, refused-not, order-stays, behind-order}
 use Rattle.imaged.specs.Judging.{graphIn}
 use borrow.Author.Needs.{needs}

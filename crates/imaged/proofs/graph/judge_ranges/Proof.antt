@@ -1,7 +1,7 @@
 -- `judge_ranges` is the transitions and then the coverage: the first leaves the image as it was.
 -- Assumes nothing.
 use Rattle.answers.proofs.Judging.{then-same}
-use Rattle.transitions.proofs.Kept.{image-kept}
+use Rattle.tabled.proofs.Kept.{image-kept}
 use Rattle.imaged.proofs.Chained.{ranges-both}
 use Rattle.transitions.proofs.Passing.{kept-twice}
 use Rattle.imaged.specs.Judging.{rangesIn}
