@@ -1,7 +1,7 @@
 // The ordering query of document 01 over good held tables, in a work area that need not be cleared and is left as it comes: a caller with many queries judges its tables
 // and clears its work area once.
 ghost use mathlib.Core.Path.{_≡_};
-ghost use Prim.Native.Nat.{_+_, _*_, _<_, _≤_};
+ghost use Prim.Native.Nat.{_+_, _*_, _<_};
 ghost use lib.ListN.{length, getD};
 ghost use Rattle.rules.specs.Tables.{heldWidth, heldSegments};
 ghost use Rattle.rules.specs.Ordering.{ordering, refusedAt, orderingOf};

@@ -1,8 +1,8 @@
 // The ancestors of a row of held tables, each row met once, on any tables, with loops and parents without a row too. Where the walk keeps
 // its words in the work area is said in specs/.
 ghost use mathlib.Core.Path.{_≡_};
-ghost use mathlib.Core.Bool.{Bool, cond};
-ghost use Prim.Native.Nat.{ℕ, _+_, _*_, _<_, _≤_};
+ghost use mathlib.Core.Bool.{cond};
+ghost use Prim.Native.Nat.{_+_, _*_, _<_, _≤_};
 ghost use lib.Dec.{eqb};
 ghost use lib.ListN.{length, getD, set, take, drop, replicate};
 ghost use Rattle.words.specs.Part.{part};
