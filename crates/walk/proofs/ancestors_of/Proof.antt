@@ -10,7 +10,10 @@ prepare-requires : tie.Need-prepare-requires
 prepare-requires c κs = search needs
 
 climb-requires : tie.Need-climb-requires
-climb-requires c κs = search needs
+climb-requires c κs =
+    let s = c .before .before .before .before .before .before .before .before in
+    let p = c .before .before .before .prepare in
+    ((s .pre .0, s .pre .1), (omega (arith, s .pre .2, p .kept .1 .1 .1 .0), p .ensures .0, p .ensures .1))
 
 mul-list-once : tie.Need-mul-list-once
 mul-list-once c = search needs
@@ -36,7 +39,7 @@ returns c =
     let k = c .before .before .before .before .before .before .climb in
     let l = c .before .before .list-once in
     record {
-      are = climbed-listed (s .args .rows .now) (s .args .edges .now) (s .args .n) (s .args .a) _ _ _ (k .ensures) (l .ensures .0);
+      are = climbed-listed (s .args .rows .now) (s .args .edges .now) (s .args .n) (s .args .row .0) _ _ _ (k .ensures) (l .ensures .0);
       read = k .ensures .count;
       fits = omega (arith, l .ensures .1, k .ensures .fits);
     }

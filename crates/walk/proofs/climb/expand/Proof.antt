@@ -6,8 +6,8 @@ use mathlib.Core.Path.{refl}
 use lib.ListN.{length, getD}
 use Rattle.walk.proofs.Turns.{stretch-end, stretch-size, expanded}
 use borrow.Author.Needs.{needs}
-use Rattle.walk.proofs.expand.Statement.{statement}
-use Rattle.walk.proofs.expand.Tie as tie
+use Rattle.walk.proofs.climb.expand.Statement.{statement}
+use Rattle.walk.proofs.climb.expand.Tie as tie
 
 -- the stretch of the row lies in the table
 end : (c : tie.After-parent-count) → getD (c .before .before .before .before .before .args .w .now) (c .before .before .before .before .before .args .r) 0 + c .parent-count .result ≤ length (c .before .before .before .before .before .args .edges .now)

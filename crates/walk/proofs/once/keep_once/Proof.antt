@@ -8,8 +8,8 @@ use Rattle.words.specs.Table.{ids}
 use Rattle.walk.specs.Kept.{Kept}
 use Rattle.walk.proofs.Keeping.{kept-start, kept-step, kept-end}
 use borrow.Author.Needs.{needs}
-use Rattle.walk.proofs.keep_once.Statement.{statement}
-use Rattle.walk.proofs.keep_once.Tie as tie
+use Rattle.walk.proofs.once.keep_once.Statement.{statement}
+use Rattle.walk.proofs.once.keep_once.Tie as tie
 
 abbrev Inv-loop : tie.InvT-loop
 Inv-loop w₀ a m b k₀ i₀ w k i =

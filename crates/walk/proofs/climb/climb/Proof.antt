@@ -8,8 +8,8 @@ use Rattle.walk.specs.Met.{metIn, StartsIn}
 use Rattle.walk.proofs.Reach.{Reached}
 use Rattle.walk.proofs.Climbing.{climb-start, climb-asks, climb-next, climb-end}
 use borrow.Author.Needs.{needs}
-use Rattle.walk.proofs.climb.Statement.{statement}
-use Rattle.walk.proofs.climb.Tie as tie
+use Rattle.walk.proofs.climb.climb.Statement.{statement}
+use Rattle.walk.proofs.climb.climb.Tie as tie
 
 abbrev Inv-loop : tie.InvT-loop
 Inv-loop rows edges n a w₀ len₀ m₀ q₀ w len m q =

@@ -3,8 +3,8 @@
 use mathlib.Core.Path.{refl}
 use borrow.Author.Tests.{eq-eqb, ne-eqb}
 use borrow.Author.Needs.{needs}
-use Rattle.walk.proofs.is_new.Statement.{statement}
-use Rattle.walk.proofs.is_new.Tie as tie
+use Rattle.walk.proofs.once.is_new.Statement.{statement}
+use Rattle.walk.proofs.once.is_new.Tie as tie
 
 returns : tie.Need-returns
 returns c = rw (eq-eqb _ _ (c .if1 .taken)) refl

@@ -4,8 +4,8 @@ use mathlib.Core.Path.{_∙_}
 use lib.ListN.{length-set}
 use Rattle.walk.proofs.Steps.{meet-asks, meet-found, meet-nothing}
 use borrow.Author.Needs.{needs}
-use Rattle.walk.proofs.meet_parent.Statement.{statement}
-use Rattle.walk.proofs.meet_parent.Tie as tie
+use Rattle.walk.proofs.climb.meet_parent.Statement.{statement}
+use Rattle.walk.proofs.climb.meet_parent.Tie as tie
 
 mul-w : tie.Need-mul-w
 mul-w c = search needs

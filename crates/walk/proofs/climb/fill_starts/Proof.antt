@@ -9,8 +9,8 @@ use Rattle.rules.proofs.Places.{start-next, start-room}
 use Rattle.walk.specs.Met.{StartsIn}
 use Rattle.walk.proofs.Steps.{starts-next, starts-end}
 use borrow.Author.Needs.{needs}
-use Rattle.walk.proofs.fill_starts.Statement.{statement}
-use Rattle.walk.proofs.fill_starts.Tie as tie
+use Rattle.walk.proofs.climb.fill_starts.Statement.{statement}
+use Rattle.walk.proofs.climb.fill_starts.Tie as tie
 
 abbrev Inv-loop : tie.InvT-loop
 Inv-loop rows n g w₀ at₀ i₀ w at i =

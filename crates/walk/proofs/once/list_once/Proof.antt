@@ -3,8 +3,8 @@
 use native.Mathlib.Omega.{arith}
 use Rattle.walk.proofs.Sorting.{sorted-length, sorted-rises, sorted-kept}
 use borrow.Author.Needs.{needs}
-use Rattle.walk.proofs.list_once.Statement.{statement}
-use Rattle.walk.proofs.list_once.Tie as tie
+use Rattle.walk.proofs.once.list_once.Statement.{statement}
+use Rattle.walk.proofs.once.list_once.Tie as tie
 
 mul-sort3 : tie.Need-mul-sort3
 mul-sort3 c = search needs

@@ -3,8 +3,8 @@
 use native.Mathlib.Omega.{arith}
 use Rattle.walk.proofs.Sorting.{cleared}
 use borrow.Author.Needs.{needs}
-use Rattle.walk.proofs.prepare.Statement.{statement}
-use Rattle.walk.proofs.prepare.Tie as tie
+use Rattle.walk.proofs.climb.prepare.Statement.{statement}
+use Rattle.walk.proofs.climb.prepare.Tie as tie
 
 fill-starts-requires : tie.Need-fill-starts-requires
 fill-starts-requires c κs = search needs

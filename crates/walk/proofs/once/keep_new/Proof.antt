@@ -2,8 +2,8 @@
 -- Assumes nothing.
 use mathlib.Core.Path.{_∙_, refl, sym}
 use borrow.Author.Needs.{needs}
-use Rattle.walk.proofs.keep_new.Statement.{statement}
-use Rattle.walk.proofs.keep_new.Tie as tie
+use Rattle.walk.proofs.once.keep_new.Statement.{statement}
+use Rattle.walk.proofs.once.keep_new.Tie as tie
 
 is-new-requires : tie.Need-is-new-requires
 is-new-requires c κs = search needs

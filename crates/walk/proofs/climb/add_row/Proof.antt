@@ -6,8 +6,8 @@ use native.Mathlib.Omega.{arith}
 use borrow.Author.Tests.{eq-eqb, ne-eqb}
 use lib.ListN.{length-set}
 use borrow.Author.Needs.{needs}
-use Rattle.walk.proofs.add_row.Statement.{statement}
-use Rattle.walk.proofs.add_row.Tie as tie
+use Rattle.walk.proofs.climb.add_row.Statement.{statement}
+use Rattle.walk.proofs.climb.add_row.Tie as tie
 
 room : (c : tie.Else1) → c .before .before .args .len < c .before .before .args .n
 room c = c .before .before .pre .1 (c .if1 .left)

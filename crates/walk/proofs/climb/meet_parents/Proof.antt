@@ -9,8 +9,8 @@ use Rattle.words.proofs.TableLaws.{length-ids}
 use Rattle.rules.specs.Tables.{heldWidth}
 use Rattle.walk.proofs.Turns.{Passing, passing-start, passing-next, passing-end}
 use borrow.Author.Needs.{needs}
-use Rattle.walk.proofs.meet_parents.Statement.{statement}
-use Rattle.walk.proofs.meet_parents.Tie as tie
+use Rattle.walk.proofs.climb.meet_parents.Statement.{statement}
+use Rattle.walk.proofs.climb.meet_parents.Tie as tie
 
 abbrev Inv-loop : tie.InvT-loop
 Inv-loop rows n parents len m w₀ l₀ j₀ w l j =
