@@ -2,7 +2,7 @@
 -- Membership laws are equations of Bools and hold of all lists; that lists ascend is shown apart.
 -- Assumes nothing.
 use mathlib.Core.Path.{_≡_, refl, sym, ap, _∙_}
-use mathlib.Core.Bool.{Bool, true, false, cond, not, _&&_, _||_}
+use mathlib.Core.Bool.{Bool, true, false, cond, _&&_, _||_}
 use mathlib.Core.Logic.{_⊎_, inl, inr}
 use mathlib.Core.List.{List, [], _∷_, _++_, map}
 use Prim.Native.Nat.{ℕ, zero, suc, _+_, _<_, _≤_, zero-le}
@@ -144,7 +144,8 @@ unfolding add
 length-add x [] h = refl
 length-add x (y ∷ ys) h = go (length-add x ys) (ltb x y) (eqb y x) refl h
   where
-    go : (x ∉ ys → length (add x ys) ≡ suc (length ys)) → (p q : Bool) → eqb y x ≡ q → (q || has x ys) ≡ false → length (cond p (x ∷ y ∷ ys) (cond q (y ∷ ys) (y ∷ add x ys))) ≡ suc (suc (length ys))
+    go : (x ∉ ys → length (add x ys) ≡ suc (length ys)) → (p q : Bool) → eqb y x ≡ q → (q || has x ys) ≡ false
+        → length (cond p (x ∷ y ∷ ys) (cond q (y ∷ ys) (y ∷ add x ys))) ≡ suc (suc (length ys))
     go ih true q k e = refl
     go ih false true k e = never (sym e)
     go ih false false k e = ap suc (ih e)
@@ -224,7 +225,8 @@ unfolding keep
 has-keep t z [] = refl
 has-keep t z (x ∷ xs) = go (has-keep t z xs) (t x) refl (eqb x z) refl
   where
-    go : has z (keep t xs) ≡ (has z xs && t z) → (a : Bool) → t x ≡ a → (b : Bool) → eqb x z ≡ b → has z (cond a (x ∷ keep t xs) (keep t xs)) ≡ ((b || has z xs) && t z)
+    go : has z (keep t xs) ≡ (has z xs && t z) → (a : Bool) → t x ≡ a → (b : Bool) → eqb x z ≡ b
+        → has z (cond a (x ∷ keep t xs) (keep t xs)) ≡ ((b || has z xs) && t z)
     go ih true e true k = or-left (eqb x z) _ k ∙ sym (ap t (sym (eqb-true x z k)) ∙ e)
     go ih true e false k = rw k ih
     go ih false e true k = ih ∙ no-z (has z xs) (ap t (sym (eqb-true x z k)) ∙ e)
@@ -280,7 +282,8 @@ unfolding keep
 keep-keep t u [] = refl
 keep-keep t u (x ∷ xs) = go (keep-keep t u xs) (t x)
   where
-    go : keep u (keep t xs) ≡ keep (λ z. t z && u z) xs → (b : Bool) → keep u (cond b (x ∷ keep t xs) (keep t xs)) ≡ cond (b && u x) (x ∷ keep (λ z. t z && u z) xs) (keep (λ z. t z && u z) xs)
+    go : keep u (keep t xs) ≡ keep (λ z. t z && u z) xs → (b : Bool)
+        → keep u (cond b (x ∷ keep t xs) (keep t xs)) ≡ cond (b && u x) (x ∷ keep (λ z. t z && u z) xs) (keep (λ z. t z && u z) xs)
     go ih true = rw ih refl
     go ih false = ih
 
@@ -302,7 +305,8 @@ keep-all t [] s = refl
 keep-all t (x ∷ xs) s = rw (s x (here x xs)) (ap (λ (z : List ℕ). x ∷ z) (keep-all t xs (λ z h. s z (there z x xs h))))
 
 -- where u holds at one id less than t, it keeps one id less
-pub keep-one-less : (t u : ℕ → Bool) (m : ℕ) (l : List ℕ) → Ascending l → m ∈ l → t m ≡ true → u m ≡ false → ((x : ℕ) → x ∈ l → (x ≡ m → ⊥) → u x ≡ t x) → length (keep t l) ≡ suc (length (keep u l))
+pub keep-one-less : (t u : ℕ → Bool) (m : ℕ) (l : List ℕ) → Ascending l → m ∈ l → t m ≡ true → u m ≡ false → ((x : ℕ) → x ∈ l → (x ≡ m → ⊥) → u x ≡ t x)
+    → length (keep t l) ≡ suc (length (keep u l))
 unfolding keep
 keep-one-less t u m [] a h p q s = never h
 keep-one-less t u m (x ∷ xs) a h p q s =
@@ -314,11 +318,13 @@ keep-one-less t u m (x ∷ xs) a h p q s =
     same : x ≡ m → keep u xs ≡ keep t xs
     same e = keep-same u t xs (λ z i. s z (there z x xs i) (λ k. apart z (a .0 z i) (k ∙ sym e)))
 
-    but : (b : Bool) → length (keep t xs) ≡ suc (length (keep u xs)) → length (cond b (x ∷ keep t xs) (keep t xs)) ≡ suc (length (cond b (x ∷ keep u xs) (keep u xs)))
+    but : (b : Bool) → length (keep t xs) ≡ suc (length (keep u xs))
+        → length (cond b (x ∷ keep t xs) (keep t xs)) ≡ suc (length (cond b (x ∷ keep u xs) (keep u xs)))
     but true k = ap suc k
     but false k = k
 
-    go : (m ∈ xs → length (keep t xs) ≡ suc (length (keep u xs))) → Dec (x ≡ m) → (m ≡ x) ⊎ (m ∈ xs) → length (cond (t x) (x ∷ keep t xs) (keep t xs)) ≡ suc (length (cond (u x) (x ∷ keep u xs) (keep u xs)))
+    go : (m ∈ xs → length (keep t xs) ≡ suc (length (keep u xs))) → Dec (x ≡ m) → (m ≡ x) ⊎ (m ∈ xs)
+        → length (cond (t x) (x ∷ keep t xs) (keep t xs)) ≡ suc (length (cond (u x) (x ∷ keep u xs) (keep u xs)))
     go ih (yes e) d =
         let p′ : t x ≡ true = ap t e ∙ p in
         let q′ : u x ≡ false = ap u e ∙ q in

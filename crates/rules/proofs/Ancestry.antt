@@ -1,6 +1,6 @@
 -- What `ancestors` computes is what `Ancestor` says, in ascending order, for every layout, also one with loops or parents without a row. A pass
 -- that makes an ascending list no longer leaves it closed, and no list of referenced ids is longer than all references. Assumes nothing.
-use mathlib.Core.Path.{_≡_, refl, sym, ap, _∙_}
+use mathlib.Core.Path.{_≡_}
 use mathlib.Core.Bool.{Bool, true, false, cond}
 use mathlib.Core.Logic.{_⊎_, inl, inr, _↔_}
 use mathlib.Core.List.{List, [], _∷_, _++_}
@@ -95,7 +95,8 @@ module _ (S : List Segment) where
   asc-close (suc k) xs a = asc-close k (grow S xs xs) (asc-grow xs xs a)
 
   -- what holds of the ids, and of a parent of one of which it holds, holds of all
-  close-each : (P : ℕ → Type 0) → ((x p : ℕ) → P x → p ∈ parentsOf S x → P p) → (k : ℕ) (xs : List ℕ) → ((x : ℕ) → x ∈ xs → P x) → (x : ℕ) → x ∈ close S k xs → P x
+  close-each : (P : ℕ → Type 0) → ((x p : ℕ) → P x → p ∈ parentsOf S x → P p) → (k : ℕ) (xs : List ℕ) → ((x : ℕ) → x ∈ xs → P x) → (x : ℕ) → x ∈ close S k xs
+      → P x
   unfolding close
   close-each P up zero xs b = b
   close-each P up (suc k) xs b = close-each P up k (grow S xs xs) (λ x h. go x (in-grow x xs xs h))
@@ -144,7 +145,8 @@ module _ (S : List Segment) where
   close-closed zero xs a r h = full-closed xs a r (omega arith)
   close-closed (suc k) xs a r h = go (close-closed k (grow S xs xs) (asc-grow xs xs a) (grow-referenced xs r)) (decLt (length xs) (length (grow S xs xs)))
     where
-      go : (length (references S) ≤ length (grow S xs xs) + k → Closed (close S k (grow S xs xs))) → Dec (length xs < length (grow S xs xs)) → Closed (close S k (grow S xs xs))
+      go : (length (references S) ≤ length (grow S xs xs) + k → Closed (close S k (grow S xs xs))) → Dec (length xs < length (grow S xs xs))
+          → Closed (close S k (grow S xs xs))
       go ih (yes l) = ih (omega arith)
       go ih (no l) = stays-closed k (grow S xs xs) (grow-closed xs (no-longer xs a (omega arith)))
 
@@ -170,7 +172,9 @@ module _ (S : List Segment) where
 
   pub ancestors-sound : (x c : ℕ) → x ∈ ancestors S c → Ancestor S x c
   unfolding ancestors
-  ancestors-sound x c h = close-each (λ z. Ancestor S z c) (λ y p a q. ancestor-trans S (parent q) a) (length (references S)) (addAll (parentsOf S c) []) (λ z k. parent (in-start c z k)) x h
+  ancestors-sound x c h =
+      close-each (λ z. Ancestor S z c) (λ y p a q. ancestor-trans S (parent q) a) (length (references S)) (addAll (parentsOf S c) [])
+      (λ z k. parent (in-start c z k)) x h
 
   parents-in : (c p : ℕ) → p ∈ parentsOf S c → p ∈ ancestors S c
   unfolding ancestors

@@ -1,12 +1,11 @@
 -- When the ordering query refuses, what it answers otherwise, what its answer does not depend on, and that both its lists ascend and fit; by
 -- cases on the lists that the rule looks at. Assumes nothing.
 use mathlib.Core.Path.{_≡_, refl, sym, ap, _∙_, subst}
-use mathlib.Core.Bool.{Bool, true, false, cond, not, _&&_}
+use mathlib.Core.Bool.{Bool, true, false, cond, not}
 use mathlib.Core.List.{List, [], _∷_}
 use Prim.Native.Nat.{ℕ, _+_, _<_, _≤_}
 use native.Mathlib.Omega.{arith}
 use borrow.Author.Tests.{ne-eqb}
-use lib.Dec.{eqb}
 use lib.ListN.{length}
 use Rattle.lists.specs.Lists.{has, _∈_, _∉_}
 use Rattle.lists.specs.Sets.{Ascending, keep}
@@ -37,17 +36,19 @@ module _ (S : List Segment) (c : ℕ) (history history′ : List ℕ) (h : (x : 
     same-answer mode = rw (remote-same, incomplete-same) refl
 
 -- the same, an id at a time
-has-other : (x y : ℕ) (l : List ℕ) → (y ≡ x → ⊥) → has x (y ∷ l) ≡ has x l
+pub has-other : (x y : ℕ) (l : List ℕ) → (y ≡ x → ⊥) → has x (y ∷ l) ≡ has x l
 has-other x y l n = rw (ne-eqb y x n) refl
 
 apart : (S : List Segment) (c y : ℕ) → y ∉ ancestors S c → (x : ℕ) → x ∈ ancestors S c → y ≡ x → ⊥
 apart S c y n x m e = never (sym n ∙ rw e m)
 
-pub completed-no-ancestor : (S : List Segment) (mode : OrderingMode) (c y : ℕ) (history completed : List ℕ) → y ∉ ancestors S c → ordering S mode c history (y ∷ completed) ≡ ordering S mode c history completed
+pub completed-no-ancestor : (S : List Segment) (mode : OrderingMode) (c y : ℕ) (history completed : List ℕ) → y ∉ ancestors S c
+    → ordering S mode c history (y ∷ completed) ≡ ordering S mode c history completed
 completed-no-ancestor S mode c y history completed n =
     same-answer S c history history (λ x m. refl) (y ∷ completed) completed (λ x m. has-other x y completed (apart S c y n x m)) mode
 
-pub history-no-ancestor : (S : List Segment) (mode : OrderingMode) (c y : ℕ) (history completed : List ℕ) → y ∉ ancestors S c → ordering S mode c (y ∷ history) completed ≡ ordering S mode c history completed
+pub history-no-ancestor : (S : List Segment) (mode : OrderingMode) (c y : ℕ) (history completed : List ℕ) → y ∉ ancestors S c
+    → ordering S mode c (y ∷ history) completed ≡ ordering S mode c history completed
 history-no-ancestor S mode c y history completed n =
     same-answer S c (y ∷ history) history (λ x m. has-other x y history (apart S c y n x m)) completed completed (λ x m. refl) mode
 
@@ -59,17 +60,23 @@ pub record Open (S : List Segment) (mode : OrderingMode) (c : ℕ) (history : Li
   pub unpruned : pruned S c ≡ []
   pub allowed : barred mode (remote S c history) ≡ []
 
-pub open-answer : (S : List Segment) (mode : OrderingMode) (c : ℕ) (history completed : List ℕ) → Open S mode c history → ordering S mode c history completed ≡ settled (incomplete S c history completed) (remote S c history) (referencesRead S c)
+pub open-answer : (S : List Segment) (mode : OrderingMode) (c : ℕ) (history completed : List ℕ) → Open S mode c history
+    → ordering S mode c history completed ≡ settled (incomplete S c history completed) (remote S c history) (referencesRead S c)
 unfolding ordering
 open-answer S mode c history completed o = rw (o .row, o .unpruned, o .allowed) refl
 
 -- an answer that is no refusal says so
-pub answer-open : (S : List Segment) (mode : OrderingMode) (c : ℕ) (history completed : List ℕ) → NotRefused (ordering S mode c history completed) → Open S mode c history
+pub answer-open : (S : List Segment) (mode : OrderingMode) (c : ℕ) (history completed : List ℕ) → NotRefused (ordering S mode c history completed)
+    → Open S mode c history
 unfolding ordering
-answer-open S mode c history completed = go (has c (idsOf S)) refl (pruned S c) refl (barred mode (remote S c history)) refl
+answer-open S mode c history completed =
+    go (has c (idsOf S)) refl (pruned S c) refl (barred mode (remote S c history)) refl
   where
+    n : ℕ
+    n = referencesRead S c
+
     go : (r : Bool) → has c (idsOf S) ≡ r → (p : List ℕ) → pruned S c ≡ p → (b : List ℕ) → barred mode (remote S c history) ≡ b
-        → NotRefused (cond r (unprovableFor c (referencesRead S c) p (unprovableFor c (referencesRead S c) b (settled (incomplete S c history completed) (remote S c history) (referencesRead S c)))) (unknown c))
+        → NotRefused (cond r (unprovableFor c n p (unprovableFor c n b (settled (incomplete S c history completed) (remote S c history) n))) (unknown c))
         → Open S mode c history
     go false i p j b k h = absurd h
     go true i (x ∷ p) j b k h = absurd h
@@ -96,10 +103,12 @@ blocked-settled (x ∷ xs) rs ys ss n m e =
 blocked-settled [] [] ys ss n m e = absurd (subst MayRead e tt)
 blocked-settled [] (r ∷ rs) ys ss n m e = absurd (subst MayRead e tt)
 
-pub blocked-open : (S : List Segment) (mode : OrderingMode) (c : ℕ) (history completed xs rs : List ℕ) (n : ℕ) → ordering S mode c history completed ≡ blocked xs rs n → Open S mode c history
+pub blocked-open : (S : List Segment) (mode : OrderingMode) (c : ℕ) (history completed xs rs : List ℕ) (n : ℕ)
+    → ordering S mode c history completed ≡ blocked xs rs n → Open S mode c history
 blocked-open S mode c history completed xs rs n e = answer-open S mode c history completed (rw e tt)
 
-pub read-open : (S : List Segment) (mode : OrderingMode) (c : ℕ) (history completed : List ℕ) → MayRead (ordering S mode c history completed) → Open S mode c history
+pub read-open : (S : List Segment) (mode : OrderingMode) (c : ℕ) (history completed : List ℕ) → MayRead (ordering S mode c history completed)
+    → Open S mode c history
 read-open S mode c history completed h = answer-open S mode c history completed (go (ordering S mode c history completed) h)
   where
     go : (a : Answer) → MayRead a → NotRefused a
@@ -153,7 +162,9 @@ module _ (S : List Segment) (mode : OrderingMode) (c : ℕ) (history completed :
   -- both lists of any answer
   pub lists-fine : Fine S (firstOf (ordering S mode c history completed)) × Fine S (secondOf (ordering S mode c history completed))
   unfolding ordering incomplete remote
-  lists-fine = go (has c (idsOf S)) (pruned S c) fine-pruned (barred mode (remote S c history)) (fine-barred mode) (incomplete S c history completed) (fine-kept _) (remote S c history) (fine-kept _)
+  lists-fine =
+      go (has c (idsOf S)) (pruned S c) fine-pruned (barred mode (remote S c history)) (fine-barred mode)
+      (incomplete S c history completed) (fine-kept _) (remote S c history) (fine-kept _)
     where
       n : ℕ
       n = referencesRead S c
@@ -166,7 +177,8 @@ module _ (S : List Segment) (mode : OrderingMode) (c : ℕ) (history completed :
       last [] p [] q = (p, q)
       last [] p (r ∷ rs) q = (p, q)
 
-      go : (r : Bool) (p : List ℕ) → Fine S p → (b : List ℕ) → Fine S b → (xs : List ℕ) → Fine S xs → (rs : List ℕ) → Fine S rs → Both (cond r (unprovableFor c n p (unprovableFor c n b (settled xs rs n))) (unknown c))
+      go : (r : Bool) (p : List ℕ) → Fine S p → (b : List ℕ) → Fine S b → (xs : List ℕ) → Fine S xs → (rs : List ℕ) → Fine S rs
+          → Both (cond r (unprovableFor c n p (unprovableFor c n b (settled xs rs n))) (unknown c))
       go false p fp b fb xs fx rs fr = (fine-none, fine-none)
       go true (x ∷ p) fp b fb xs fx rs fr = (fp, fine-none)
       go true [] fp (x ∷ b) fb xs fx rs fr = (fb, fine-none)

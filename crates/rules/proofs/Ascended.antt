@@ -1,24 +1,29 @@
 -- Rules that look segments up by id answer the same for the segments in ascending order: sorting is stable, so the first segment with an id stays
 -- the first; and what is sorted again (Active ranges) does not see the order at all. Assumes nothing.
-use Prim.Native.Nat.{ℕ, _+_, _<_}
+use Prim.Native.Nat.{ℕ, _<_}
 use native.Mathlib.Omega.{arith}
 use mathlib.Core.Path.{_≡_, refl, sym, ap, _∙_}
-use mathlib.Core.Bool.{Bool, true, false, cond, not}
+use mathlib.Core.Bool.{Bool, true, false, cond}
 use mathlib.Core.Option.{Option, some}
-use mathlib.Core.List.{List, [], _∷_, _++_, map}
-use mathlib.Core.Logic.{⊎-elim}
-use borrow.Author.Tests.{eqb-true, leb-false}
+use mathlib.Core.List.{List, [], _∷_}
+use borrow.Author.Tests.{eqb-true, leb-false, le-leb}
 use lib.Dec.{eqb, leb}
+use lib.ListN.{length}
 use Rattle.lists.specs.Lists as Lists
 use Rattle.lists.specs.Lists.{has}
 use Rattle.lists.specs.Sort.{Row, insert, sorted, le3}
-use Rattle.lists.proofs.SortLaws.{true-or-false, insert-comm}
+use Rattle.lists.proofs.SortLaws.{insert-comm, sorted-twice}
 use Rattle.lists.proofs.SetLaws.{has-sorted}
+use Rattle.lists.proofs.Sums.{sum-sorted}
 use Rattle.lists.proofs.RowOrder.{order3}
-use Rattle.answers.specs.Answer.{_then_}
+use Rattle.types.specs.declared.limits.DagLimits.{DagLimits}
 use Rattle.rules.specs.Model.{Segment, idOf, idsOf, lookup, idLe, byId}
-use Rattle.rules.specs.Edges.{parentRule, parentsRule, childRule, childrenRule, linksRule, linksFrom}
-use Rattle.rules.specs.Tiling.{rangeOf, rangesOf, tilingRule, allSingle, oneMerged, splitRule, forkRule, forksFrom, joinRule, joinsFrom, activeOf, walked, coverageRule}
+use Rattle.rules.specs.Edges.{parentRule, parentsRule, childRule, childrenRule, linksRule, linksFrom, edgesRule}
+use Rattle.rules.specs.Order.{orderOf, orderRule}
+use Rattle.rules.specs.Tiling.{rangeOf, rangesOf, tilingRule, allSingle, oneMerged, splitRule, forkRule, forksFrom, joinRule, joinsFrom, transitionsRule, activeOf, walked, coverageRule}
+use Rattle.rules.specs.Layout.{graphRule}
+use Rattle.rules.specs.Ancestors.{parentsOf}
+use Rattle.rules.specs.Ordering.{parentsIn}
 
 -- ---- looking up
 
@@ -27,7 +32,8 @@ found-swap : (s t : Segment) (x : ℕ) (rest : Option Segment) → t .head .id <
     → cond (eqb (t .head .id) x) (some t) (cond (eqb (s .head .id) x) (some s) rest) ≡ cond (eqb (s .head .id) x) (some s) (cond (eqb (t .head .id) x) (some t) rest)
 found-swap s t x rest below = go (eqb (t .head .id) x) refl (eqb (s .head .id) x) refl
   where
-    go : (a : Bool) → eqb (t .head .id) x ≡ a → (b : Bool) → eqb (s .head .id) x ≡ b → cond a (some t) (cond b (some s) rest) ≡ cond b (some s) (cond a (some t) rest)
+    go : (a : Bool) → eqb (t .head .id) x ≡ a → (b : Bool) → eqb (s .head .id) x ≡ b
+        → cond a (some t) (cond b (some s) rest) ≡ cond b (some s) (cond a (some t) rest)
     go true p true q = absurd (omega (arith, eqb-true (t .head .id) x p, eqb-true (s .head .id) x q))
     go true p false q = refl
     go false p b q = refl
@@ -36,7 +42,8 @@ lookup-insert : (x : ℕ) (s : Segment) (ss : List Segment) → lookup x (insert
 lookup-insert x s [] = refl
 lookup-insert x s (t ∷ ss) = go (lookup-insert x s ss) (idLe s t) refl
   where
-    go : lookup x (insert idLe s ss) ≡ lookup x (s ∷ ss) → (b : Bool) → idLe s t ≡ b → lookup x (cond b (s ∷ t ∷ ss) (t ∷ insert idLe s ss)) ≡ lookup x (s ∷ t ∷ ss)
+    go : lookup x (insert idLe s ss) ≡ lookup x (s ∷ ss) → (b : Bool) → idLe s t ≡ b
+        → lookup x (cond b (s ∷ t ∷ ss) (t ∷ insert idLe s ss)) ≡ lookup x (s ∷ t ∷ ss)
     go ih true e = refl
     go ih false e =
         ap (λ (o : Option Segment). cond (eqb (t .head .id) x) (some t) o) ih ∙ found-swap s t x (lookup x ss) (leb-false (s .head .id) (t .head .id) e)
@@ -173,3 +180,45 @@ coverage-same rs qs e =
 
 pub active-byId : (ss : List Segment) → coverageRule (activeOf (byId ss)) ≡ coverageRule (activeOf ss)
 active-byId ss = coverage-same (activeOf (byId ss)) (activeOf ss) (sorted-byId ss)
+
+-- ---- whole rules: an ascending list is its own `byId`
+
+pub byId-twice : (ss : List Segment) → byId (byId ss) ≡ byId ss
+byId-twice ss = sorted-twice idLe (λ s t e. lt-le (s .head .id) (t .head .id) (leb-false (s .head .id) (t .head .id) e)) ss
+  where
+    lt-le : (a b : ℕ) → b < a → leb b a ≡ true
+    lt-le a b h = le-leb b a (omega arith)
+
+pub edges-byId : (ss : List Segment) → edgesRule (byId ss) ≡ edgesRule ss
+unfolding edgesRule
+edges-byId ss = rw (byId-twice ss) (links-byId ss (byId ss))
+
+pub transitions-byId : (ss : List Segment) → transitionsRule (byId ss) ≡ transitionsRule ss
+unfolding transitionsRule
+transitions-byId ss = rw (byId-twice ss, forks-byId ss (byId ss), joins-byId ss (byId ss)) refl
+
+pub length-byId : (ss : List Segment) → length (byId ss) ≡ length ss
+length-byId ss = sum-sorted idLe length (λ (s : Segment). 1) (λ s l. omega arith) ss
+
+pub orderOf-byId : (limit : ℕ) (ss : List Segment) → orderOf limit (byId ss) ≡ orderOf limit ss
+unfolding orderOf
+orderOf-byId limit ss = rw (byId-twice ss, length-byId ss) refl
+
+-- 28 to 35 do not see the order of the rows
+pub graph-byId : (limits : DagLimits) (ss : List Segment) → graphRule limits (byId ss) ≡ graphRule limits ss
+unfolding graphRule orderRule
+graph-byId limits ss = rw (orderOf-byId (limits .depth) ss, transitions-byId ss, active-byId ss) refl
+
+-- ---- parents, as the ordering query reads them
+
+pub parents-lookup : (x : ℕ) (ss : List Segment) → parentsOf ss x ≡ parentsIn (lookup x ss)
+unfolding parentsOf
+parents-lookup x [] = refl
+parents-lookup x (s ∷ ss) = go (parents-lookup x ss) (eqb (s .head .id) x)
+  where
+    go : parentsOf ss x ≡ parentsIn (lookup x ss) → (a : Bool) → cond a (s .parents) (parentsOf ss x) ≡ parentsIn (cond a (some s) (lookup x ss))
+    go ih true = refl
+    go ih false = ih
+
+pub parents-byId : (x : ℕ) (ss : List Segment) → parentsOf (byId ss) x ≡ parentsOf ss x
+parents-byId x ss = parents-lookup x (byId ss) ∙ ap parentsIn (lookup-byId x ss) ∙ sym (parents-lookup x ss)

@@ -17,7 +17,12 @@ use Rattle.rules.proofs.Ancestry.{somebody, parent-referenced, ancestor
 pub total-fits : (S : List Segment) (l : List ℕ) → Ascending l → total (λ x. length (parentsOf S x)) l ≤ edgeWords S
 unfolding parentsOf edgeWords
 total-fits [] l a = omega (arith, total-none l)
-total-fits (s ∷ S) l a = omega (arith, total-fits S l a, total-raised (λ x. length (cond (eqb (s .head .id) x) (s .parents) (parentsOf S x))) (λ x. length (parentsOf S x)) (s .head .id) (length (s .parents)) other itself l a)
+total-fits (s ∷ S) l a =
+    omega (
+      arith,
+      total-fits S l a,
+      total-raised (λ x. length (cond (eqb (s .head .id) x) (s .parents) (parentsOf S x))) (λ x. length (parentsOf S x)) (s .head .id) (length (s .parents)) other itself l a,
+    )
   where
     other : (x : ℕ) → (x ≡ s .head .id → ⊥) → length (cond (eqb (s .head .id) x) (s .parents) (parentsOf S x)) ≡ length (parentsOf S x)
     other x q = rw (ne-eqb (s .head .id) x (λ e. q (sym e))) refl
@@ -43,7 +48,11 @@ references-fit (s ∷ S) = omega (arith, references-fit S, length-append (s .par
 
 pub ancestors-fit : (S : List Segment) (c : ℕ) → length (ancestors S c) ≤ edgeWords S
 ancestors-fit S c =
-    omega (arith, references-fit S, fits (ancestors S c) (references S) (ancestors-ascending S c) (λ x h. let y = somebody S (ancestors-sound S x c h) in parent-referenced S (y .0) x (y .1)))
+    omega (
+      arith,
+      references-fit S,
+      fits (ancestors S c) (references S) (ancestors-ascending S c) (λ x h. let y = somebody S (ancestors-sound S x c h) in parent-referenced S (y .0) x (y .1)),
+    )
 
 pub family-fits : (S : List Segment) (c : ℕ) → length (family S c) ≤ edgeWords S + 1
 unfolding family

@@ -97,10 +97,10 @@ module _ (h : Head) (p c : ℕ) (s : Option Site) (pre ys : List ℕ) (w : ℕ) 
   row-head : headAt rows w ≡ h
   row-head = rw (← l) (ap (λ (t : List ℕ). headAt t (length pre)) same ∙ head-after pre tail ∙ back .0)
 
-  row-parents : parentsAt rows w ≡ p
+  pub row-parents : parentsAt rows w ≡ p
   row-parents = rw (← l) (ap (λ (t : List ℕ). parentsAt t (length pre)) same ∙ getD-append-add pre tail 9 0 ∙ back .1)
 
-  row-children : childrenAt rows w ≡ c
+  pub row-children : childrenAt rows w ≡ c
   row-children = rw (← l) (ap (λ (t : List ℕ). childrenAt t (length pre)) same ∙ getD-append-add pre tail 10 0 ∙ back .2)
 
   row-site : siteAt rows (w + headWidth) ≡ s

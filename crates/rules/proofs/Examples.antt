@@ -25,7 +25,7 @@ use Rattle.rules.specs.Tiling.{misfit, walkEnd, walkFrom, walked, tiles,
 use Rattle.rules.specs.Layout.{graphRule, layoutRule}
 use Rattle.rules.specs.Judge.{Tables, Areas, filled}
 use Rattle.rules.specs.Delta.{addedFrom, addedOf, removedOf, pairsFrom, splitPairs, mergePairs, widthsActive, handoverOf, deltaOf}
-use Rattle.rules.specs.Update.{Changes, bodyRule, addressRule, isStale, replaceRule, went, changed, updateAfter}
+use Rattle.rules.specs.Update.{Changes, bodyRule, addressRule, isStale, badTables, shortToUpdate, replaceRule, went, changed, updateAfter}
 
 -- ---- how cases are written
 
@@ -164,6 +164,6 @@ cases =
     ∷ []
 
 pub right : Right cases
-unfolding le3 keep heldRows heldEdges badHead badPlace badHeldRow wrongCounts badTable badLayout badHeldRows badHeld noRoomToUpdate sizeRule placesFrom placementsRule rangeRule stateRule descriptorRule activeRule sealedRule stateLifecycle lifecycleRule itemsFrom listRule headRule listsRule rowRule edgeCountRule countedRule rowsFrom rowsRule danglingFrom danglingRule epochRule parentFound parentKnown parentRule childFound childKnown childRule parentsRule childrenRule linksRule linksFrom edgesRule firstReady taken depthOf touched visit orderFrom orderOf orderedRule orderRule misfit walkEnd walkFrom walked tiles rangesOf tilingRule allSingle oneMerged splitRule forkRule forksFrom joinRule joinsFrom transitionsRule activeOf walkedRule coverageRule graphRule layoutRule filled addedFrom addedOf removedOf pairsFrom splitPairs mergePairs widthsActive handoverOf deltaOf bodyRule addressRule isStale replaceRule went changed updateAfter
+unfolding le3 keep heldRows heldEdges badHead badPlace badHeldRow wrongCounts badTable badLayout badHeldRows badHeld noRoomToUpdate sizeRule placesFrom placementsRule rangeRule stateRule descriptorRule activeRule sealedRule stateLifecycle lifecycleRule itemsFrom listRule headRule listsRule rowRule edgeCountRule countedRule rowsFrom rowsRule danglingFrom danglingRule epochRule parentFound parentKnown parentRule childFound childKnown childRule parentsRule childrenRule linksRule linksFrom edgesRule firstReady taken depthOf touched visit orderFrom orderOf orderedRule orderRule misfit walkEnd walkFrom walked tiles rangesOf tilingRule allSingle oneMerged splitRule forkRule forksFrom joinRule joinsFrom transitionsRule activeOf walkedRule coverageRule graphRule layoutRule filled addedFrom addedOf removedOf pairsFrom splitPairs mergePairs widthsActive handoverOf deltaOf bodyRule addressRule isStale badTables shortToUpdate replaceRule went changed updateAfter
 right =
     (refl, refl, (refl, refl, (refl, refl, (refl, refl, (refl, refl, (refl, refl, (refl, refl, (refl, refl, (refl, refl, (refl, refl, (refl, refl, (refl, refl, tt))))))))))))

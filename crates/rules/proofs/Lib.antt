@@ -1,4 +1,6 @@
 pub mod Examples
+pub mod Places
+pub mod Decode
 pub mod Ticks
 pub mod Tiled
 pub mod Covered
@@ -9,5 +11,7 @@ pub mod Answers
 pub mod NoDeadEnd
 pub mod OrderingCases
 pub mod Ascended
-pub mod Places
-pub mod Decode
+pub mod Taken
+pub mod Accepts
+pub mod TableIds
+pub mod HeldSegments

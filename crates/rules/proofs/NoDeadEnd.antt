@@ -37,7 +37,8 @@ module _ (S : List Segment) (acc : Accepted S) where
   First t = (m : ℕ) × (t m ≡ true) × ((x : ℕ) → Ancestor S x m → t x ≡ false)
 
   -- places before j hold none of the set; f places are left before one that does
-  first-from : (t : ℕ → Bool) (f j : ℕ) → j + f < length (acc .order) → t (getD (acc .order) (j + f) 0) ≡ true → ((i : ℕ) → i < j → t (getD (acc .order) i 0) ≡ false) → First t
+  first-from : (t : ℕ → Bool) (f j : ℕ) → j + f < length (acc .order) → t (getD (acc .order) (j + f) 0) ≡ true
+      → ((i : ℕ) → i < j → t (getD (acc .order) i 0) ≡ false) → First t
   first-from t zero j l h b = found (omega arith)
     where
       found : j + zero ≡ j → First t
@@ -54,7 +55,8 @@ module _ (S : List Segment) (acc : Accepted S) where
           at (yes r) = b i r
           at (no r) = let e : i ≡ j = omega arith in rw e k
 
-      go : (((i : ℕ) → i < suc j → t (getD (acc .order) i 0) ≡ false) → First t) → (t (getD (acc .order) j 0) ≡ true) ⊎ (t (getD (acc .order) j 0) ≡ false) → First t
+      go : (((i : ℕ) → i < suc j → t (getD (acc .order) i 0) ≡ false) → First t) → (t (getD (acc .order) j 0) ≡ true) ⊎ (t (getD (acc .order) j 0) ≡ false)
+          → First t
       go ih (inl k) = (getD (acc .order) j 0, k, λ x a. let r = ancestor-before a j (omega arith) refl in ap t (sym (r .3)) ∙ b (r .0) (r .1))
       go ih (inr k) = ih (more k)
 
@@ -78,12 +80,14 @@ module _ (S : List Segment) (acc : Accepted S) where
       allowed = bar mode (o .allowed);
     }
       where
-        bar : (md : OrderingMode) → barred md (keep (λ x. not (has x history)) (ancestors S c)) ≡ [] → barred md (keep (λ x. not (has x history)) (ancestors S m)) ≡ []
+        bar : (md : OrderingMode) → barred md (keep (λ x. not (has x history)) (ancestors S c)) ≡ []
+            → barred md (keep (λ x. not (has x history)) (ancestors S m)) ≡ []
         bar Strict e = keep-none _ (ancestors S m) (λ x k. none-kept _ (ancestors S c) e x (ancestors-further S x m c k h))
         bar BrokerManaged e = refl
 
     -- at least one segment that is named as incomplete may itself be read
-    pub readable-exists : (e : List ℕ) → 0 < length (incomplete S c history e) → (m : ℕ) × (m ∈ incomplete S c history e) × MayRead (ordering S mode m history e)
+    pub readable-exists : (e : List ℕ) → 0 < length (incomplete S c history e)
+        → (m : ℕ) × (m ∈ incomplete S c history e) × MayRead (ordering S mode m history e)
     unfolding incomplete
     readable-exists e h = go (keep (λ x. has x history && not (has x e)) (ancestors S c)) refl h
       where
@@ -94,11 +98,15 @@ module _ (S : List Segment) (acc : Accepted S) where
         idle : (f : First t) → incomplete S (f .0) history e ≡ []
         idle f = keep-none _ (ancestors S (f .0)) (λ x k. at x k (true-or-false (has x history && not (has x e))))
           where
-            at : (x : ℕ) → x ∈ ancestors S (f .0) → ((has x history && not (has x e)) ≡ true) ⊎ ((has x history && not (has x e)) ≡ false) → (has x history && not (has x e)) ≡ false
-            at x k (inl q) = never (sym (f .2 x (ancestors-sound S x (f .0) k)) ∙ keep-in _ x (ancestors S c) (ancestors-further S x (f .0) c k (in-keep _ (f .0) (ancestors S c) (f .1) .0)) q)
+            at : (x : ℕ) → x ∈ ancestors S (f .0) → ((has x history && not (has x e)) ≡ true) ⊎ ((has x history && not (has x e)) ≡ false)
+                → (has x history && not (has x e)) ≡ false
+            at x k (inl q) =
+                let m : f .0 ∈ ancestors S c = in-keep _ (f .0) (ancestors S c) (f .1) .0 in
+                never (sym (f .2 x (ancestors-sound S x (f .0) k)) ∙ keep-in _ x (ancestors S c) (ancestors-further S x (f .0) c k m) q)
             at x k (inr q) = q
 
-        go : (l : List ℕ) → keep (λ x. has x history && not (has x e)) (ancestors S c) ≡ l → 0 < length l → (m : ℕ) × (m ∈ keep (λ x. has x history && not (has x e)) (ancestors S c)) × MayRead (ordering S mode m history e)
+        go : (l : List ℕ) → keep (λ x. has x history && not (has x e)) (ancestors S c) ≡ l → 0 < length l
+            → (m : ℕ) × (m ∈ keep (λ x. has x history && not (has x e)) (ancestors S c)) × MayRead (ordering S mode m history e)
         go [] q k = absurd (omega arith)
         go (y ∷ l) q k =
             let i : t y ≡ true = rw q (here y l) in
@@ -155,7 +163,9 @@ module _ (S : List Segment) (mode : OrderingMode) (c : ℕ) (history d named rem
   counted : {j : ℕ} {e : List ℕ} → Reading S mode history named d j e → length (uncompleted named e) + j ≡ length named
   counted begin = rw (keep-all (λ x. not (has x d)) named named-open) (omega arith)
   counted (complete {e = e} {e′ = e′} m r i k u g q o) =
-      let l = keep-one-less (λ x. not (has x e)) (λ x. not (has x e′)) m named named-ascending i (ap not k) (ap not q) (λ x h a. same-has e e′ x (g x) (λ y. back x a (o x h y))) in
+      let l =
+      keep-one-less (λ x. not (has x e)) (λ x. not (has x e′)) m named named-ascending i (ap not k) (ap not q)
+      (λ x h a. same-has e e′ x (g x) (λ y. back x a (o x h y))) in
       omega (arith, counted r)
     where
       back : (x : ℕ) → (x ≡ m → ⊥) → (x ∈ e) ⊎ (x ≡ m) → x ∈ e
@@ -184,11 +194,13 @@ no-dead-end S acc mode c history d named remotes n b j e r =
       reads = λ h. rw a (settled-read (uncompleted named e) remotes n (empty (uncompleted named e) (omega arith)));
     }
   where
-    pick : incomplete S c history e ≡ uncompleted named e → (m : ℕ) × (m ∈ incomplete S c history e) × MayRead (ordering S mode m history e) → (m : ℕ) × (m ∈ named) × (m ∉ e) × MayRead (ordering S mode m history e)
+    pick : incomplete S c history e ≡ uncompleted named e → (m : ℕ) × (m ∈ incomplete S c history e) × MayRead (ordering S mode m history e)
+        → (m : ℕ) × (m ∈ named) × (m ∉ e) × MayRead (ordering S mode m history e)
     pick i m = let k = in-keep _ (m .0) named (rw i at (m .1)) in (m .0, k .0, not-true _ (k .1), m .2)
 
 -- whichever named, uncompleted, readable segment is completed next, the reading goes on with it
-pub any-next : (S : List Segment) (mode : OrderingMode) (history named d e : List ℕ) (j m : ℕ) → Reading S mode history named d j e → m ∈ named → m ∉ e → MayRead (ordering S mode m history e) → Reading S mode history named d (suc j) (m ∷ e)
+pub any-next : (S : List Segment) (mode : OrderingMode) (history named d e : List ℕ) (j m : ℕ) → Reading S mode history named d j e → m ∈ named → m ∉ e
+    → MayRead (ordering S mode m history e) → Reading S mode history named d (suc j) (m ∷ e)
 any-next S mode history named d e j m r i k u = complete m r i k u (λ x h. there x m e h) (here m e) (λ x h q. turn (in-cons x m e q))
   where
     turn : {x : ℕ} → (x ≡ m) ⊎ (x ∈ e) → (x ∈ e) ⊎ (x ≡ m)
@@ -196,11 +208,13 @@ any-next S mode history named d e j m r i k u = complete m r i k u (λ x h. ther
     turn (inr p) = inl p
 
 -- so there is a reading that completes all
-pub reading-ends : (S : List Segment) → Accepted S → (mode : OrderingMode) (c : ℕ) (history d named remotes : List ℕ) (n : ℕ) → ordering S mode c history d ≡ blocked named remotes n
+pub reading-ends : (S : List Segment) → Accepted S → (mode : OrderingMode) (c : ℕ) (history d named remotes : List ℕ) (n : ℕ)
+    → ordering S mode c history d ≡ blocked named remotes n
     → (e : List ℕ) × Reading S mode history named d (length named) e × MayRead (ordering S mode c history e)
 reading-ends S acc mode c history d named remotes n b = go (length named) 0 d begin (omega arith)
   where
-    go : (f j : ℕ) (e : List ℕ) → Reading S mode history named d j e → f + j ≡ length named → (e : List ℕ) × Reading S mode history named d (length named) e × MayRead (ordering S mode c history e)
+    go : (f j : ℕ) (e : List ℕ) → Reading S mode history named d j e → f + j ≡ length named
+        → (e : List ℕ) × Reading S mode history named d (length named) e × MayRead (ordering S mode c history e)
     go zero j e r q =
         let k : j ≡ length named = omega arith in
         (e, rw (← k) r, no-dead-end S acc mode c history d named remotes n b j e r .reads k)
@@ -209,12 +223,15 @@ reading-ends S acc mode c history d named remotes n b = go (length named) 0 d be
         go f (suc j) (m .0 ∷ e) (any-next S mode history named d e j (m .0) r (m .1) (m .2) (m .3)) (omega arith)
 
 -- what may be read stays so
-pub read-stays : (S : List Segment) (mode : OrderingMode) (c : ℕ) (history d e : List ℕ) → Grows d e → MayRead (ordering S mode c history d) → MayRead (ordering S mode c history e)
+pub read-stays : (S : List Segment) (mode : OrderingMode) (c : ℕ) (history d e : List ℕ) → Grows d e → MayRead (ordering S mode c history d)
+    → MayRead (ordering S mode c history e)
 unfolding incomplete
 read-stays S mode c history d e g h =
     let o = read-open S mode c history d h in
     let s : MayRead (settled (incomplete S c history d) (remote S c history) (referencesRead S c)) = rw (open-answer S mode c history d o) at h in
-    rw (open-answer S mode c history e o) (settled-read _ _ _ (keep-none _ (ancestors S c) (λ x k. at (has x history) (has x d) (has x e) (g x) (none-kept _ (ancestors S c) (none-left _ _ _ s) x k))))
+    let none : incomplete S c history e ≡ [] =
+    keep-none _ (ancestors S c) (λ x k. at (has x history) (has x d) (has x e) (g x) (none-kept _ (ancestors S c) (none-left _ _ _ s) x k)) in
+    rw (open-answer S mode c history e o) (settled-read _ _ _ none)
   where
     none-left : (xs rs : List ℕ) (n : ℕ) → MayRead (settled xs rs n) → xs ≡ []
     none-left [] rs n k = refl

@@ -8,7 +8,7 @@ use mathlib.Core.List.{List, [], _∷_}
 use Prim.Native.Nat.{ℕ, zero, suc, _<_}
 use native.Mathlib.Omega.{arith}
 use lib.Dec.{eqb}
-use lib.ListN.{length, getD, take}
+use lib.ListN.{getD, take}
 use Rattle.lists.specs.Lists.{_∈_}
 use Rattle.lists.specs.Sets as Sets
 use Rattle.lists.proofs.SetLaws.{never, in-cons}
@@ -107,7 +107,8 @@ ordering-cases = (refl, (refl, (refl, (refl, (refl, (refl, (refl, (refl, (refl, 
 
 -- ---- what the judge shuts out: neither table is free of dead ends
 
-only-one : (S : List Segment) (x : ℕ) → (MayRead (ordering S Strict x (x ∷ []) []) → ⊥) → (c : ℕ) → ordering S Strict c (x ∷ []) [] ≡ blocked (x ∷ []) [] 1 → NoDeadEnd S → ⊥
+only-one : (S : List Segment) (x : ℕ) → (MayRead (ordering S Strict x (x ∷ []) []) → ⊥) → (c : ℕ) → ordering S Strict c (x ∷ []) [] ≡ blocked (x ∷ []) [] 1
+    → NoDeadEnd S → ⊥
 only-one S x no-read c b free =
     let m = free Strict c (x ∷ []) [] (x ∷ []) [] 1 b 0 [] begin .next (omega arith) in
     at (m .0) (in-cons (m .0) x [] (m .1)) (m .3)

@@ -1,7 +1,7 @@
 -- The test `tiles` decides the meaning `Tiles`, for all ranges and every target; the widths of ranges that tile sum to the target's width; and
 -- neither the order of ranges nor their ids count. Soundness by induction on the walk; completeness: of the sorted ranges the first must start
 -- where the target does, and the rest tile what is left of it. Assumes nothing.
-use Prim.Native.Nat.{ℕ, zero, suc, _+_, _-_, _≤_, _<_}
+use Prim.Native.Nat.{ℕ, _+_, _-_, _≤_, _<_}
 use native.Mathlib.Omega.{arith}
 use mathlib.Core.Path.{_≡_, refl, sym, ap, _∙_}
 use mathlib.Core.Bool.{Bool, true, false, cond, not, _||_}
@@ -16,7 +16,7 @@ use Rattle.lists.proofs.SortLaws.{Asc, sorted-asc, In, in-sorted, of-sorted}
 use Rattle.lists.proofs.RowOrder.{order3, Lex, to-lex, no}
 use Rattle.lists.proofs.Sums.{sum-sorted}
 use Rattle.rules.specs.declared.Walked.{Walked}
-use Rattle.rules.specs.declared.Walked.the-variants.{Tiled, Broken, Short}
+use Rattle.rules.specs.declared.Walked.the-variants.{Broken}
 use Rattle.rules.specs.Tiling.{inside, holders, widths, Ranges, Tiles, misfit, walkEnd, walkFrom, walked, isTiled, tiles}
 use Rattle.rules.proofs.Ticks.{in-tick, low-tick, high-tick, tick-in, tick-split}
 

@@ -3,14 +3,13 @@
 -- words past the new contents stay."
 -- Assumes nothing.
 use Prim.Native.Nat.{ℕ, _/_}
-use mathlib.Core.Bool.{Bool, true, false, cond}
+use mathlib.Core.Bool.{Bool, true, false, cond, not, _&&_}
 use mathlib.Core.List.{List}
 use lib.ListN.{length, replicate}
-use lib.Dec.{ltb}
 use Rattle.lists.specs.Lists.{front}
 use Rattle.answers.specs.declared.Judged.{Judged}
 use Rattle.answers.specs.declared.Judged.the-variants.{Accepted, Refused}
-use Rattle.answers.specs.Answer.{when, _then_, refuse0, numberOf}
+use Rattle.answers.specs.Answer.{when, _then_, refuse0}
 use Rattle.types.specs.declared.limits.DagLimits.{DagLimits}
 use Rattle.rules.specs.Model.{Segment, Placement}
 use Rattle.rules.specs.Tables.{rowWidth, placeWidth, segments, placements, heldRows, heldEdges}
@@ -58,10 +57,15 @@ abbrev pub areasAfter : Judged → Areas → Areas → Areas
 areasAfter Accepted new old = new
 areasAfter (Refused r) new old = old
 
--- 1 and 2 leave the work area as it was; past them it is all zero
-abbrev pub workLeft : ℕ → List ℕ → List ℕ
-workLeft number work = cond (ltb 2 number) (replicate (length work) 0) work
+-- the call got past 1 and 2
+unfoldable pub pastRoom : Tables → ℕ → Areas → Bool
+pastRoom t work a =
+    not (badLayout (t .rows) (t .edges) (t .places))
+    && not (noRoomToJudge work (length (a .held)) (length (a .links)) (length (a .order)) (length (t .rows) / rowWidth) (length (t .places) / placeWidth) (length (t .edges)))
 
-abbrev pub workAfter : Judged → List ℕ → List ℕ
-workAfter Accepted work = replicate (length work) 0
-workAfter (Refused r) work = workLeft (r .number) work
+-- 1 and 2 leave the work area as it was; past them it is all zero
+abbrev pub clearedIf : Bool → List ℕ → List ℕ
+clearedIf past work = cond past (replicate (length work) 0) work
+
+abbrev pub workAfter : Tables → List ℕ → Areas → List ℕ
+workAfter t work a = clearedIf (pastRoom t (length work) a) work

@@ -15,3 +15,4 @@ pub mod Reading
 pub mod Assignment
 pub mod Delta
 pub mod Update
+pub mod Session

@@ -23,7 +23,6 @@ use Rattle.rules.specs.Model.{Segment, idsOf, lookup}
 use Rattle.rules.specs.Tables.{heldSegments}
 use Rattle.rules.specs.Shape.{badHeld}
 use Rattle.rules.specs.Room.{noRoomToOrder}
-use Rattle.rules.specs.Judge.{workLeft}
 use Rattle.rules.specs.Ancestors.{parentsOf, createdOf, ancestors, family, referencesRead}
 
 -- ---- the rule, over the held segments

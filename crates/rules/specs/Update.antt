@@ -24,7 +24,7 @@ use Rattle.rules.specs.Tables.{rowWidth, placeWidth, heldWidth}
 use Rattle.rules.specs.Shape.{badLayout, badHeld}
 use Rattle.rules.specs.Room.{noRoomToUpdate}
 use Rattle.rules.specs.Layout.{layoutRule}
-use Rattle.rules.specs.Judge.{Tables, Areas, segmentsIn, placementsIn, filled, workLeft}
+use Rattle.rules.specs.Judge.{Tables, Areas, segmentsIn, placementsIn, filled, clearedIf}
 use Rattle.rules.specs.Delta.{addedOf, removedOf, splitPairs, mergePairs, pairWords, deltaOf}
 
 -- "a session that holds none reads its counts and epoch as 0"
@@ -60,11 +60,20 @@ addressRule s u =
 unfoldable pub isStale : Session → Update → Bool
 isStale s u = s .held && leb (u .epoch) (s .epoch)
 
--- 1, 2, 3 to 35, beside the held tables in `a`
+-- 1: the incoming tables, and the held tables in `a`
+unfoldable pub badTables : Session → Tables → Areas → Bool
+badTables s t a = badLayout (t .rows) (t .edges) (t .places) || badHeld (a .held) (a .links) (heldCount s) (heldEdgeCount s)
+
+-- 2
+unfoldable pub shortToUpdate : Session → Tables → ℕ → Areas → Changes → Bool
+shortToUpdate s t work a c =
+    noRoomToUpdate work (length (a .held)) (length (a .links)) (length (a .order)) (length (c .added)) (length (c .removed)) (length (c .splits)) (length (c .merges)) (length (t .rows) / rowWidth) (length (t .places) / placeWidth) (length (t .edges)) (heldCount s)
+
+-- 1, 2, 3 to 35
 unfoldable pub replaceRule : Session → Update → DagLimits → Tables → ℕ → Areas → Changes → Judged
 replaceRule s u limits t work a c =
-    when (badLayout (t .rows) (t .edges) (t .places) || badHeld (a .held) (a .links) (heldCount s) (heldEdgeCount s)) (refuse0 1) then
-    when (noRoomToUpdate work (length (a .held)) (length (a .links)) (length (a .order)) (length (c .added)) (length (c .removed)) (length (c .splits)) (length (c .merges)) (length (t .rows) / rowWidth) (length (t .places) / placeWidth) (length (t .edges)) (heldCount s)) (refuse0 2) then
+    when (badTables s t a) (refuse0 1) then
+    when (shortToUpdate s t work a c) (refuse0 2) then
     layoutRule (u .epoch) (u .size) limits (segmentsIn t) (placementsIn t)
 
 -- how an update went
@@ -132,12 +141,17 @@ changed before ss c =
       merges = front (pairWords (mergePairs before ss)) (c .merges);
     }
 
--- only a call that got past 2 clears the work area
-abbrev pub updateWorkAfter : Went → List ℕ → List ℕ
-updateWorkAfter (refusedBefore r) work = work
-updateWorkAfter stale work = work
-updateWorkAfter (judged (J.Refused r)) work = workLeft (r .number) work
-updateWorkAfter (judged J.Accepted) work = replicate (length work) 0
+-- the call got past 1 and 2
+unfoldable pub pastUpdateRoom : Session → Tables → ℕ → Areas → Changes → Bool
+pastUpdateRoom s t work a c =
+    not (badTables s t a)
+    && not (shortToUpdate s t work a c)
+
+-- 40, 41, 42 and stale stand before 1 and 2, and leave the work area as it was
+abbrev pub updateWorkAfter : Went → Bool → List ℕ → List ℕ
+updateWorkAfter (refusedBefore r) past work = work
+updateWorkAfter stale past work = work
+updateWorkAfter (judged j) past work = clearedIf past work
 
 -- the whole promise of an update, as one record
 pub record After : Type 0 where
@@ -157,5 +171,5 @@ updateAfter s u limits t work a c =
       session = sessionAfter w s u t;
       areas = ifAccepted w (filled limits t a) a;
       changes = ifAccepted w (changed before ss c) c;
-      work = updateWorkAfter w work;
+      work = updateWorkAfter w (pastUpdateRoom s t (length work) a c) work;
     }

@@ -5,7 +5,7 @@ use mathlib.Core.Bool.{Bool, false}
 use borrow.Author.Tests.{ltb-false}
 use Rattle.rules.specs.Tables.{heldWidth}
 use Rattle.rules.specs.Room.{noRoomToJudge, noRoomToUpdate, noRoomToOrder}
-use Rattle.shape.proofs.Good.{or-left, or-right}
+use Rattle.answers.proofs.Judging.{or-left, or-right}
 
 -- held rows, held edges and order list, for n rows with k edge words
 pub record Held (held links order n k : ℕ) : Type 0 where

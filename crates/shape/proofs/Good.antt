@@ -2,27 +2,20 @@
 -- Assumes nothing.
 use Prim.Native.Nat.{ℕ, zero, suc, _+_, _*_, _/_, _%_, _≤_, _<_}
 use mathlib.Core.Path.{_≡_, refl, sym, _∙_}
-use mathlib.Core.Bool.{Bool, true, false, not, _||_, true≢false}
+use mathlib.Core.Bool.{Bool, false, not}
 use mathlib.Core.List.{List}
 use native.Mathlib.Omega.{arith}
 use native.Mathlib.Nat.{not-suc-le-zero, le-of-suc-le-suc, add-zero, zero-add, div-add-mod'}
 use borrow.Author.Tests.{eqb-true, ltb-false, not-false}
 use lib.ListN.{length, getD}
 use lib.Dec.{eqb, ltb}
+use Rattle.answers.proofs.Judging.{or-left, or-right}
 use Rattle.words.specs.Table.{ids, Ascends, ascending}
 use Rattle.words.proofs.TableLaws.{asc-is}
 use Rattle.rules.specs.Tables.{rowWidth, heldWidth, placeWidth, headWidth, edgesFrom}
 use Rattle.rules.specs.Shape.{badHead, badPlace, badHeldRow, anyBad, wrongCounts, badTable, badLayout, badHeldRows, badHeld}
 
 -- ---- of tests
-
-pub or-left : (a b : Bool) → a || b ≡ false → a ≡ false
-or-left true b e = e
-or-left false b e = refl
-
-pub or-right : (a b : Bool) → a || b ≡ false → b ≡ false
-or-right true b e = absurd (true≢false e)
-or-right false b e = e
 
 -- no row of n from row i on is bad, so row i + k is not
 none-bad : (bad : List ℕ → ℕ → Bool) (width : ℕ) (rows : List ℕ) (n i k : ℕ) → anyBad bad width rows n i ≡ false → k < n → bad rows ((i + k) * width) ≡ false

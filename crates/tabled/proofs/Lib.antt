@@ -1,3 +1,4 @@
 pub mod ByRow
 pub mod Cut
 pub mod HasRow
+pub mod Kept

@@ -1,0 +1,4 @@
+pub mod Cases
+pub mod Heads
+pub mod Told
+pub mod Walk

@@ -1,0 +1,5 @@
+pub mod Passes
+pub mod Acceptance
+pub mod DemandThree
+pub mod Example
+pub mod Unchanged

@@ -1,0 +1,10 @@
+pub mod Keyed
+pub mod Keys
+pub mod Lookup
+pub mod Once
+pub mod IndexIds
+pub mod Fill
+pub mod TwinLaws
+pub mod Marked
+pub mod Flags
+pub mod Examples

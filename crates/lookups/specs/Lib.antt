@@ -1,0 +1,2 @@
+pub mod PairSearch
+pub mod Sides
