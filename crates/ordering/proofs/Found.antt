@@ -1,12 +1,11 @@
 -- An id is among the ids of held tables where its row is found.
 -- Assumes nothing.
-use Prim.Native.Nat.{ℕ, suc}
+use Prim.Native.Nat.{ℕ}
 use mathlib.Core.Path.{_≡_, refl, sym, ap, _∙_}
-use mathlib.Core.Bool.{Bool, true, false, cond, not, _||_}
-use mathlib.Core.List.{List, [], _∷_}
-use lib.Dec.{eqb}
+use mathlib.Core.Bool.{Bool, true, false, cond, not}
+use mathlib.Core.List.{List}
 use Rattle.lists.specs.Lists.{has}
-use Rattle.words.specs.Table.{ids, whereFrom, whereIs}
+use Rattle.words.specs.Table.{ids, whereIs}
 use Rattle.words.specs.declared.Found.{Found}
 use Rattle.words.specs.declared.Found.the-variants.{At, Nothing}
 use Rattle.answers.specs.declared.Judged.{Judged}

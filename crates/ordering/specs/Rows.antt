@@ -1,15 +1,14 @@
 -- What held tables say of an id by its row.
 -- Assumes nothing.
-use Prim.Native.Nat.{ℕ, _+_, _*_, _<_, _≤_}
+use Prim.Native.Nat.{ℕ, _*_, _<_, _≤_}
 use mathlib.Core.Path.{_≡_}
-use mathlib.Core.Bool.{Bool, true, false, cond, _&&_}
-use mathlib.Core.List.{List, [], _∷_}
-use lib.Dec.{eqb, ltb}
-use lib.ListN.{length, getD}
+use mathlib.Core.Bool.{cond}
+use mathlib.Core.List.{List}
+use lib.ListN.{length}
 use Rattle.words.specs.Table.{ids, whereIs}
 use Rattle.words.specs.declared.Found.{Found}
-use Rattle.words.specs.declared.Found.the-variants.{At, Nothing}
-use Rattle.rules.specs.Tables.{heldWidth, parentsAt, edgesFrom}
+use Rattle.words.specs.declared.Found.the-variants.{Nothing}
+use Rattle.rules.specs.Tables.{heldWidth, edgesFrom}
 use Rattle.rules.specs.Shape.{badHeld}
 
 -- the row of an id, where the tables are good

@@ -1,7 +1,6 @@
 // The ordering query of document 01 over held tables: whether a segment may be read, given what was owned and completed; and the parents
 // and children of a segment as stretches of the held table itself.
 ghost use mathlib.Core.Path.{_≡_};
-ghost use mathlib.Core.Bool.{Bool};
 ghost use lib.ListN.{length};
 ghost use Rattle.rules.specs.Ordering.{query, orderingOf, firstAfter, secondAfter, orderWorkAfter, permitsFlow, knownRule, parentStretch, childStretch};
 use answers::Eligibility;

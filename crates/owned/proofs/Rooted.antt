@@ -6,7 +6,7 @@ use mathlib.Core.Path.{_≡_, refl, sym, ap, _∙_}
 use mathlib.Core.Bool.{Bool, true, false}
 use mathlib.Core.Logic.{⊎-elim}
 use mathlib.Core.List.{List}
-use lib.ListN.{length, getD, set, take}
+use lib.ListN.{length, getD, set}
 use lib.Seq.{take-set-le, getD-take, getD-set-same, getD-set-other}
 use Rattle.lists.specs.Lists.{tick}
 use Rattle.lists.proofs.Cases.{lt-or-le}

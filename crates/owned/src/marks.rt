@@ -1,15 +1,13 @@
 // A mark for each of k ids, which stand from word b on and ascend; the marks stand from word s on, behind the ids.
 ghost use mathlib.Core.Path.{_≡_};
-ghost use mathlib.Core.Bool.{Bool, cond};
+ghost use mathlib.Core.Bool.{cond};
 ghost use mathlib.Core.List.{[], _∷_};
-ghost use Prim.Native.Nat.{ℕ, _+_, _*_, _<_, _≤_};
+ghost use Prim.Native.Nat.{_+_, _<_, _≤_};
 ghost use lib.Dec.{eqb};
-ghost use lib.ListN.{length, getD, set, take};
-ghost use Rattle.lists.specs.Lists.{tick};
+ghost use lib.ListN.{length, getD, set};
 ghost use Rattle.words.specs.Part.{part};
-ghost use Rattle.words.specs.Table.{ids, Ascends};
-ghost use Rattle.rules.specs.Tables.{heldWidth};
-ghost use Rattle.owned.specs.Marks.{Marked, Raised, statusOf, rootFound, rootOf};
+ghost use Rattle.words.specs.Table.{Ascends};
+ghost use Rattle.owned.specs.Marks.{Marked, Raised, statusOf};
 use words::Found;
 
 // The word at this place becomes `to` where it is `from`.

@@ -1,6 +1,5 @@
 // Which ids are pruned roots: parentless rows created after epoch 0. Held rows ascend by id.
 ghost use mathlib.Core.Path.{_≡_};
-ghost use mathlib.Core.Bool.{Bool};
 ghost use Prim.Native.Nat.{ℕ, _+_, _*_, _≤_};
 ghost use lib.ListN.{length};
 ghost use Rattle.lists.specs.Lists.{tick};

@@ -1,10 +1,10 @@
 -- The query on good tables: what the answer by its lists is, is what the rule says.
 --     asked-row, asked-nothing     a segment with a row, and one without
 -- Assumes nothing.
-use Prim.Native.Nat.{ℕ, zero, suc, _+_, _*_, _<_, _≤_}
+use Prim.Native.Nat.{ℕ, zero, suc, _*_, _<_}
 use native.Mathlib.Omega.{arith}
 use mathlib.Core.Path.{_≡_, refl, sym, ap, subst, _∙_}
-use mathlib.Core.Bool.{Bool, true, false, cond}
+use mathlib.Core.Bool.{true}
 use mathlib.Core.List.{List, [], _∷_}
 use lib.ListN.{length, getD}
 use Rattle.lists.specs.Lists.{has, _∈_}
@@ -22,7 +22,7 @@ use Rattle.types.specs.declared.records.OrderingMode.the-variants.{Strict, Brok
 use Rattle.rules.specs.Model.{Segment, idsOf}
 use Rattle.rules.specs.Tables.{heldWidth, heldSegments}
 use Rattle.rules.specs.Ancestors.{ancestors, referencesRead}
-use Rattle.rules.specs.Ordering.{ordering, pruned, remote, incomplete, answered, orderingOf, firstAfter, secondAfter, toldOf, readOf, unknown}
+use Rattle.rules.specs.Ordering.{ordering, answered, orderingOf, readOf, unknown}
 use Rattle.rules.proofs.Ancestry.{ancestors-ascending}
 use Rattle.tabled.specs.Image.{Tabled}
 use Rattle.walk.proofs.ByParents.{row-at}

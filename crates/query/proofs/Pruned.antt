@@ -3,7 +3,7 @@
 --     pruned-are       pruned roots among the segment and its ancestors: a segment that is one has no ancestors
 --     remote-are, incomplete-are     by what the history and the completed list say of each ancestor
 -- Assumes nothing.
-use Prim.Native.Nat.{ℕ, zero, suc, _+_, _*_, _<_, _≤_}
+use Prim.Native.Nat.{ℕ, suc, _+_, _*_, _<_}
 use native.Mathlib.Omega.{arith}
 use mathlib.Core.Path.{_≡_, refl, sym, ap, _∙_}
 use mathlib.Core.Bool.{Bool, true, false, cond, not, _&&_}
@@ -13,7 +13,7 @@ use borrow.Author.Tests.{ne-eqb}
 use lib.Dec.{eqb, ltb}
 use lib.ListN.{length, getD}
 use Rattle.lists.specs.Lists as Lists
-use Rattle.lists.specs.Lists.{has, _∈_}
+use Rattle.lists.specs.Lists.{has}
 use Rattle.lists.specs.Sets.{add, keep}
 use Rattle.lists.proofs.SetLaws.{never, keep-same}
 use Rattle.words.specs.Table.{ids, whereIs}
@@ -28,8 +28,8 @@ use Rattle.rules.proofs.Ancestry.{ancestors-unique}
 use Rattle.rules.proofs.Places.{start-room, length-stretch}
 use Rattle.tabled.specs.Image.{Tabled, segmentIn, segmentFound}
 use Rattle.tabled.proofs.ByRow.{lookup-found}
-use Rattle.walk.proofs.ByParents.{parents-none, parents-at}
-use Rattle.owned.specs.Marks.{statusOf, rootRow, rootFound, rootOf}
+use Rattle.walk.proofs.ByParents.{parents-at}
+use Rattle.owned.specs.Marks.{rootFound, rootOf}
 use Rattle.query.specs.Told.{prunedIn, remoteIn, incompleteIn}
 use Rattle.tabled.proofs.HasRow.{hit, has-row}
 

@@ -1,7 +1,7 @@
-// The ordering query of document 01 over good held tables, in a work area that need not be cleared and is left as it comes: a caller with many queries judges its tables
-// and clears its work area once.
+// The ordering query of document 01 over good held tables, in a work area that need not be cleared and is left as it comes: a caller with
+// many queries judges its tables and clears its work area once.
 ghost use mathlib.Core.Path.{_≡_};
-ghost use Prim.Native.Nat.{_+_, _*_, _<_, _≤_};
+ghost use Prim.Native.Nat.{_+_, _*_, _<_};
 ghost use lib.ListN.{length, getD};
 ghost use Rattle.rules.specs.Tables.{heldWidth, heldSegments};
 ghost use Rattle.rules.specs.Ordering.{ordering, refusedAt, orderingOf};
@@ -37,7 +37,7 @@ fn ask_row(
 {
     let g = edges.len();
     let b = 3 * h + 3 * g;
-    let all = walk::ancestors_of(rows, edges, h, row.0, work);
+    let all = walk::ancestors_of(rows, edges, h, row, work);
     let eligibility = answer::answer_row(
         rows,
         h,

@@ -3,17 +3,15 @@
 --     cut-tabled       they are a table of h rows ascending by id
 -- Assumes nothing.
 use Prim.Native.Nat.{ℕ, zero, suc, _+_, _-_, _*_, _<_, _≤_}
-use native.Mathlib.Nat.{zero-add, add-zero}
+use native.Mathlib.Nat.{zero-add}
 use native.Mathlib.Omega.{arith}
-use mathlib.Core.Path.{_≡_, refl, sym, ap, _∙_}
-use mathlib.Core.List.{List, [], _∷_}
-use lib.ListN.{length, getD, take, drop}
+use mathlib.Core.Path.{_≡_, refl, sym, _∙_}
+use mathlib.Core.List.{List, _∷_}
+use lib.ListN.{length, getD, take}
 use lib.Seq.{getD-take, length-take-le, ext-getD}
-use Rattle.words.specs.Part.{part}
 use Rattle.words.specs.Table.{ids, Ascends}
 use Rattle.words.proofs.PartLaws.{part-in}
 use Rattle.words.proofs.TableLaws.{length-ids, ids-at}
-use Rattle.rules.specs.Model.{Segment}
 use Rattle.rules.specs.Tables.{heldWidth, optional, stretch, parentsAt, childrenAt, segmentAt, segmentsFrom, heldSegments, edgesFrom}
 use Rattle.tabled.specs.Image.{Tabled}
 

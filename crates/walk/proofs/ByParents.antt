@@ -8,7 +8,7 @@ use Prim.Native.Nat.{ℕ, zero, suc, _+_, _-_, _*_, _<_, _≤_}
 use native.Mathlib.Omega.{arith}
 use mathlib.Core.Path.{_≡_, refl, sym, ap, _∙_}
 use mathlib.Core.Bool.{Bool, true, false, cond}
-use mathlib.Core.Option.{Option, none, some}
+use mathlib.Core.Option.{some}
 use mathlib.Core.List.{List, [], _∷_}
 use lib.ListN.{length, getD}
 use lib.Dec.{eqb}
@@ -17,11 +17,11 @@ use Rattle.words.specs.declared.Found.{Found}
 use Rattle.words.specs.declared.Found.the-variants.{At, Nothing}
 use Rattle.words.proofs.TableLaws.{length-ids, ids-at, is-at, row-found}
 use Rattle.rules.specs.Model.{Segment, lookup}
-use Rattle.rules.specs.Tables.{heldWidth, parentsAt, childrenAt, startOf, edgesFrom, segmentAt, segmentsFrom, heldSegments}
-use Rattle.rules.specs.Ancestors.{parentsOf, createdOf, edgeWords}
+use Rattle.rules.specs.Tables.{heldWidth, parentsAt, childrenAt, startOf, edgesFrom, segmentsFrom, heldSegments}
+use Rattle.rules.specs.Ancestors.{parentsOf, edgeWords}
 use Rattle.rules.specs.Ordering.{parentsIn}
-use Rattle.rules.proofs.Places.{start-next, start-room, length-stretch}
-use Rattle.tabled.specs.Image.{Tabled, segmentIn, segmentFound}
+use Rattle.rules.proofs.Places.{start-next, length-stretch}
+use Rattle.tabled.specs.Image.{segmentIn, segmentFound}
 use Rattle.tabled.proofs.ByRow.{lookup-found}
 
 pub parents-lookup : (S : List Segment) (x : ℕ) → parentsOf S x ≡ parentsIn (lookup x S)

@@ -2,13 +2,12 @@
 --     climb-start, climb-asks, climb-next, climb-end
 --     climbed-listed     the ids read, each once, are the ancestors
 -- Assumes nothing.
-use Prim.Native.Nat.{ℕ, zero, suc, _+_, _*_, _<_, _≤_}
+use Prim.Native.Nat.{ℕ, _+_, _*_, _<_, _≤_}
 use native.Mathlib.Omega.{arith}
-use mathlib.Core.Path.{_≡_, refl, sym, ap, _∙_}
-use mathlib.Core.List.{List, [], _∷_, _++_}
+use mathlib.Core.Path.{_≡_, sym, ap, _∙_}
+use mathlib.Core.List.{List, [], _∷_}
 use lib.ListN.{length, getD, set, take, drop, replicate, length-set}
 use lib.Seq.{take-set-le}
-use Rattle.words.specs.Part.{part}
 use Rattle.words.specs.Table.{ids}
 use Rattle.words.proofs.PartLaws.{part-length, part-at}
 use Rattle.words.proofs.TableLaws.{length-ids}
@@ -18,8 +17,8 @@ use Rattle.rules.proofs.Ancestry.{ancestors-unique}
 use Rattle.rules.proofs.Places.{start-room, length-stretch}
 use Rattle.tabled.specs.Image.{Tabled, segmentIn}
 use Rattle.walk.specs.Kept.{Kept}
-use Rattle.walk.specs.Met.{Met, met, meetAll, Held, marksIn, listIn, readIn, metIn, StartsIn, Climbed}
-use Rattle.walk.proofs.Steps.{set-inside, set-past, set-ahead, part-more, starts-kept}
+use Rattle.walk.specs.Met.{meetAll, marksIn, listIn, readIn, metIn, StartsIn, Climbed}
+use Rattle.walk.proofs.Steps.{set-inside, set-past, part-more, starts-kept}
 use Rattle.walk.proofs.Reach.{Reached, parentsOfRow, reached-start, reached-next, reads-fit, row-below, read-are, read-count}
 
 module _ (rows edges : List ℕ) (n : ℕ) (t : Tabled rows edges n) (a : ℕ) (la : a < n) where

@@ -5,16 +5,16 @@ use native.Mathlib.Omega.{arith}
 use native.Mathlib.Numerals.{add-one}
 use mathlib.Core.Path.{_≡_, refl, sym, ap, _∙_}
 use mathlib.Core.Bool.{Bool, true, false, cond, not, _||_}
-use mathlib.Core.Logic.{_⊎_, inl, inr, ⊎-elim}
+use mathlib.Core.Logic.{_⊎_, ⊎-elim}
 use mathlib.Core.List.{List, [], _∷_, _++_}
-use borrow.Author.Tests.{eq-eqb, ne-eqb, eqb-true, eqb-false}
+use borrow.Author.Tests.{eqb-true, eqb-false}
 use lib.Dec.{eqb}
 use lib.ListN.{length, getD, set, take, drop}
 use lib.Seq.{take-suc, take-all, take-set-le, getD-take, getD-drop}
-use Rattle.lists.specs.Lists.{has, _∈_, _∉_}
+use Rattle.lists.specs.Lists.{has, _∈_}
 use Rattle.lists.specs.Sets.{Ascending}
 use Rattle.lists.proofs.Cases.{lt-or-le}
-use Rattle.lists.proofs.SetLaws.{never, here, there, in-cons, has-append, in-left, take-place}
+use Rattle.lists.proofs.SetLaws.{never, here, there, has-append, take-place}
 use Rattle.words.specs.Part.{part}
 use Rattle.words.specs.Table.{ids}
 use Rattle.words.proofs.TableLaws.{length-ids, ids-at}

@@ -1,24 +1,24 @@
 -- What it is to read parents: the rows met stay as they must (`Held`), and what is new among them.
 -- Assumes nothing.
-use Prim.Native.Nat.{ℕ, zero, suc, _+_, _<_, _≤_}
+use Prim.Native.Nat.{ℕ, _+_, _<_}
 use native.Mathlib.Omega.{arith}
 use native.Mathlib.Decide.{ℕ-discrete}
-use mathlib.Core.Path.{_≡_, refl, sym, ap, _∙_}
+use mathlib.Core.Path.{_≡_, refl, sym, _∙_}
 use mathlib.Core.Bool.{Bool, true, false, cond}
 use mathlib.Core.Logic.{_⊎_, inl, inr, ⊎-elim}
 use mathlib.Core.List.{List, [], _∷_, _++_, append-nil, append-assoc}
-use borrow.Author.Tests.{eq-eqb, ne-eqb, eqb-true, eqb-false}
+use borrow.Author.Tests.{eqb-true, eqb-false}
 use lib.Dec.{eqb}
 use lib.ListN.{length, getD, set, length-set, length-append}
 use lib.Seq.{getD-set-same, getD-set-other}
 use Rattle.lists.specs.Lists.{has, _∈_, _∉_}
 use Rattle.lists.proofs.SortLaws.{true-or-false}
-use Rattle.lists.proofs.SetLaws.{never, here, there, in-cons, in-left, in-right, has-append}
+use Rattle.lists.proofs.SetLaws.{never, here, there, in-cons, in-left, has-append}
 use Rattle.words.specs.Table.{whereIs}
 use Rattle.words.specs.declared.Found.{Found}
 use Rattle.words.specs.declared.Found.the-variants.{At, Nothing}
 use Rattle.words.proofs.TableLaws.{at-is}
-use Rattle.walk.specs.Met.{Met, met, meetRow, meet, meetAll, Single, Held}
+use Rattle.walk.specs.Met.{Met, met, meetRow, meet, meetAll, Held}
 use Rattle.walk.proofs.Singles.{both, out, in-snoc, snoc-old, snoc-new, single-snoc, no-more}
 
 -- ---- one row

@@ -3,33 +3,33 @@
 --     reached-start, reached-next, reached-end     the walk's loop
 --     reads-fit     there is room for what is read
 -- Assumes nothing.
-use Prim.Native.Nat.{ℕ, zero, suc, _+_, _*_, _<_, _≤_, zero-le}
+use Prim.Native.Nat.{ℕ, _+_, _*_, _<_, _≤_, zero-le}
 use native.Mathlib.Omega.{arith}
 use native.Mathlib.Numerals.{add-one}
-use native.Mathlib.Decide.{ℕ-discrete, decLt}
+use native.Mathlib.Decide.{decLt}
 use mathlib.Core.Path.{_≡_, refl, sym, ap, _∙_}
-use mathlib.Core.Bool.{Bool, true, false, cond}
+use mathlib.Core.Bool.{Bool, true, false}
 use mathlib.Core.Logic.{_⊎_, inl, inr, ⊎-elim, _↔_}
-use mathlib.Core.List.{List, [], _∷_, _++_, map, append-nil, append-assoc}
-use lib.ListN.{length, getD, set, take, drop, replicate, length-append, length-set, length-replicate, getD-replicate, List·getD-eq-default}
+use mathlib.Core.List.{List, [], _∷_, _++_, map}
+use lib.ListN.{length, getD, set, take, replicate, length-append, length-set, length-replicate, getD-replicate, List·getD-eq-default}
 use lib.Seq.{take-suc, take-all, take-append-le, getD-set-same, getD-set-other}
 use Rattle.lists.specs.Lists.{has, _∈_, _∉_}
-use Rattle.lists.specs.Sets.{Ascending, add, addAll, keep, total}
+use Rattle.lists.specs.Sets.{addAll, keep, total}
 use Rattle.lists.proofs.SortLaws.{true-or-false}
-use Rattle.lists.proofs.SetLaws.{never, here, there, in-cons, in-left, in-right, has-append, in-add, add-here, in-all, all-left, asc-all, asc-keep, in-keep, keep-in, same-ids, total-same}
+use Rattle.lists.proofs.SetLaws.{never, here, in-cons, in-left, in-right, has-append, in-add, add-here, in-all, all-left, asc-all, asc-keep, in-keep, keep-in, same-ids, total-same}
 use Rattle.words.specs.Table.{ids, whereIs}
 use Rattle.words.specs.declared.Found.{Found}
 use Rattle.words.specs.declared.Found.the-variants.{At, Nothing}
 use Rattle.words.proofs.TableLaws.{length-ids}
 use Rattle.rules.specs.Model.{Segment}
 use Rattle.rules.specs.Tables.{heldWidth, heldSegments}
-use Rattle.rules.specs.Ancestors.{Ancestor, parent, further, parentsOf, ancestors, family, referencesRead, edgeWords}
+use Rattle.rules.specs.Ancestors.{Ancestor, parent, further, parentsOf, ancestors, family, referencesRead}
 use Rattle.rules.proofs.Ancestry.{ancestor-trans, ancestors-sound, ancestors-complete, family-ascending, in-family}
 use Rattle.rules.proofs.Counting.{total-fits}
 use Rattle.tabled.specs.Image.{Tabled, segmentIn}
 use Rattle.walk.specs.Met.{Met, met, meetAll, Single, Held}
-use Rattle.walk.proofs.ByParents.{parents-none, parents-at, parents-row, row-at, row-is, words-are}
-use Rattle.walk.proofs.Singles.{both, out, in-snoc, in-front, in-map, map-in, single-front, single-map, total-all, total-kept, total-map}
+use Rattle.walk.proofs.ByParents.{parents-none, parents-row, row-at, row-is, words-are}
+use Rattle.walk.proofs.Singles.{both, in-snoc, in-front, in-map, map-in, single-front, single-map, total-all, total-kept, total-map}
 use Rattle.walk.proofs.Joined.{joined, joined-snoc, length-joined, in-joined, joined-in}
 use Rattle.walk.proofs.Meeting.{MetAll, met-all}
 

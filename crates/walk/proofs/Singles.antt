@@ -10,13 +10,13 @@ use mathlib.Core.Path.{_≡_, refl, sym, ap, _∙_}
 use mathlib.Core.Bool.{Bool, true, false, cond, _||_}
 use mathlib.Core.Logic.{_⊎_, inl, inr, ⊎-elim}
 use mathlib.Core.List.{List, [], _∷_, _++_, map}
-use borrow.Author.Tests.{eq-eqb, ne-eqb, eqb-true, eqb-false}
+use borrow.Author.Tests.{eq-eqb, eqb-true}
 use lib.Dec.{eqb, ltb}
 use lib.ListN.{length, take}
 use Rattle.lists.specs.Lists.{has, _∈_, _∉_}
-use Rattle.lists.specs.Sets.{Ascending, add, addAll, keep, total}
+use Rattle.lists.specs.Sets.{add, addAll, keep, total}
 use Rattle.lists.proofs.SortLaws.{true-or-false}
-use Rattle.lists.proofs.SetLaws.{never, here, there, in-cons, in-add, in-all, has-append, length-add, asc-all, all-left, fits}
+use Rattle.lists.proofs.SetLaws.{never, here, there, in-cons, in-all, has-append, length-add, asc-all, fits}
 use Rattle.walk.specs.Met.{Single}
 
 -- ---- membership

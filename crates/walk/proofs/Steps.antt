@@ -5,7 +5,7 @@
 --     meet-asks, meet-found, meet-nothing     both, as `meet_parent` does them
 --     starts-next, starts-kept                where the edges of the rows begin
 -- Assumes nothing.
-use Prim.Native.Nat.{ℕ, zero, suc, _+_, _-_, _*_, _<_, _≤_}
+use Prim.Native.Nat.{ℕ, _+_, _-_, _*_, _<_, _≤_}
 use native.Mathlib.Omega.{arith}
 use native.Mathlib.Numerals.{add-one}
 use mathlib.Core.Path.{_≡_, refl, sym, ap, _∙_}
@@ -24,7 +24,7 @@ use Rattle.words.specs.declared.Found.the-variants.{At, Nothing}
 use Rattle.words.proofs.PartLaws.{part-length, part-at}
 use Rattle.words.proofs.TableLaws.{length-ids, ids-at, row-found}
 use Rattle.rules.specs.Tables.{heldWidth, startOf}
-use Rattle.walk.specs.Met.{Met, met, meetRow, meet, meetAll, Held, marksIn, listIn, readIn, metIn, StartsIn}
+use Rattle.walk.specs.Met.{met, meetRow, meet, Held, marksIn, listIn, readIn, metIn, StartsIn}
 use Rattle.walk.proofs.Meeting.{room}
 
 module _ (w : List ℕ) (a n v : ℕ) where

@@ -1,16 +1,16 @@
 -- The loop over the parents of a row: what is left to be read gives what all of them give (`Passing`).
 -- The stretch of the edge table that row r has for its parents, by the words at the front of the work area.
 -- Assumes nothing.
-use Prim.Native.Nat.{ℕ, zero, suc, _+_, _*_, _<_, _≤_}
+use Prim.Native.Nat.{ℕ, _+_, _*_, _<_, _≤_}
 use native.Mathlib.Omega.{arith}
 use native.Mathlib.Nat.{add-zero}
 use native.Mathlib.Numerals.{add-one}
 use mathlib.Core.Path.{_≡_, refl, sym, ap, _∙_}
-use mathlib.Core.List.{List, [], _∷_}
+use mathlib.Core.List.{List, []}
 use lib.ListN.{length, getD, take, drop, drop-of-length-le}
 use lib.Seq.{drop-cons}
 use Rattle.words.specs.Table.{ids}
-use Rattle.rules.specs.Tables.{heldWidth, stretch, parentsAt, startOf}
+use Rattle.rules.specs.Tables.{heldWidth, stretch, parentsAt}
 use Rattle.rules.proofs.Places.{start-room, length-stretch}
 use Rattle.tabled.specs.Image.{Tabled, segmentIn}
 use Rattle.walk.specs.Met.{Met, meet, meetAll, Held, metIn, StartsIn}

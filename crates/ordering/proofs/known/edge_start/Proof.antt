@@ -1,3 +1,5 @@
+-- `edge_start` meets its contract. The invariant: `at` is where the edges of row i begin.
+-- Assumes nothing.
 use Prim.Native.Nat.{ℕ, _+_, _*_, _≤_, _-_}
 use native.Mathlib.Omega.{arith}
 use mathlib.Core.Path.{_≡_, _∙_, sym, ap}
@@ -6,8 +8,6 @@ use Rattle.rules.proofs.Places.{start-next, start-room}
 use borrow.Author.Needs.{needs}
 use Rattle.ordering.proofs.known.edge_start.Statement.{statement}
 use Rattle.ordering.proofs.known.edge_start.Tie as tie
-use Rattle.ordering.proofs.known.edge_start.Reads as reads
-use Rattle.ordering.proofs.known.edge_start.Lts as lts
 
 abbrev Inv-loop : tie.InvT-loop
 Inv-loop rows h g r at₀ i₀ at i =
@@ -20,62 +20,48 @@ abbrev μ-loop : tie.MeasureT-loop
 room : (c : tie.In-loop Inv-loop μ-loop) → startOf heldWidth (c .before .before .args .rows .now) (c .before .loop .i) + parentsAt (c .before .before .args .rows .now) (c .before .loop .i * heldWidth) + childrenAt (c .before .before .args .rows .now) (c .before .loop .i * heldWidth) ≤ c .before .before .args .g
 room c = start-room heldWidth (c .before .before .args .rows .now) (c .before .before .args .h) (c .before .loop .i) (c .before .before .args .g) (c .before .before .pre .2) (omega (arith, c .loop-test .taken, c .before .before .pre .0))
 
--- src/lib.rt:59:5
 loop-holds : tie.Need-loop-holds Inv-loop μ-loop
 loop-holds c = search needs
 
--- src/lib.rt:60:19
 mul-row : tie.Need-mul-row Inv-loop μ-loop
 mul-row c = search needs
 
--- src/lib.rt:61:24
 add-at : tie.Need-add-at Inv-loop μ-loop
 add-at c = search needs
 
--- src/lib.rt:61:19
 mul-at : tie.Need-mul-at Inv-loop μ-loop
 mul-at c = search needs
 
--- src/lib.rt:61:19
 shared-slice-read-at : tie.Need-shared-slice-read-at Inv-loop μ-loop
 shared-slice-read-at c = search needs
 
--- src/lib.rt:61:14
 add-at-2 : tie.Need-add-at-2 Inv-loop μ-loop
 add-at-2 c = omega (arith, room (c .before))
 
--- src/lib.rt:61:49
 add-at-3 : tie.Need-add-at-3 Inv-loop μ-loop
 add-at-3 c = search needs
 
--- src/lib.rt:61:44
 mul-at-2 : tie.Need-mul-at-2 Inv-loop μ-loop
 mul-at-2 c = search needs
 
--- src/lib.rt:61:44
 shared-slice-read-at-2 : tie.Need-shared-slice-read-at-2 Inv-loop μ-loop
 shared-slice-read-at-2 c = search needs
 
--- src/lib.rt:61:14
 add-at-4 : tie.Need-add-at-4 Inv-loop μ-loop
 add-at-4 c = omega (arith, room (c .before .before))
 
--- src/lib.rt:62:9
 add-i : tie.Need-add-i Inv-loop μ-loop
 add-i c = search needs
 
--- src/lib.rt:59:5
 loop-less : tie.Need-loop-less Inv-loop μ-loop
 loop-less c = search needs
 
--- src/lib.rt:59:5
 loop-again : tie.Need-loop-again Inv-loop μ-loop
 loop-again c =
     let l = c .before .before .before .loop in
     let a = c .before .before .before .before .args in
     (search needs, ap (λ (k : ℕ). k + parentsAt (a .rows .now) (l .i * heldWidth) + childrenAt (a .rows .now) (l .i * heldWidth)) (l .inv .1) ∙ sym (start-next heldWidth (a .rows .now) (l .i)))
 
--- src/lib.rt:53:1
 returns : tie.Need-returns Inv-loop μ-loop
 returns c =
     let e : c .before .loop .i ≡ c .before .before .args .r = omega arith in

@@ -1,53 +1,41 @@
+-- `parents_in` meets its contract: the parents of a row lie in the edge table.
+-- Assumes nothing.
 use native.Mathlib.Omega.{arith}
 use Rattle.ordering.proofs.Stretches.{fit-from, parents-are}
 use borrow.Author.Needs.{needs}
 use Rattle.ordering.proofs.known.parents_in.Statement.{statement}
 use Rattle.ordering.proofs.known.parents_in.Tie as tie
-use Rattle.ordering.proofs.known.parents_in.Reads as reads
-use Rattle.ordering.proofs.known.parents_in.Lts as lts
-use Rattle.ordering.proofs.known.edge_start.Reads as edge-start-reads
 
--- src/lib.rt:74:9
 edge-start-requires : tie.Need-edge-start-requires
 edge-start-requires c κs = search needs
 
--- src/lib.rt:75:26
 mul-to : tie.Need-mul-to
 mul-to c = search needs
 
--- src/lib.rt:75:26
 add-to : tie.Need-add-to
 add-to c = search needs
 
--- src/lib.rt:75:21
 mul-to-2 : tie.Need-mul-to-2
 mul-to-2 c = search needs
 
--- src/lib.rt:75:21
 shared-slice-read-to : tie.Need-shared-slice-read-to
 shared-slice-read-to c = search needs
 
--- src/lib.rt:75:14
 add-to-2 : tie.Need-add-to-2
 add-to-2 c = omega (arith, fit-from (c .before .before .before .before .before .args .rows .now) (c .before .before .before .before .before .args .edges .now) (c .before .before .before .before .before .args .h) (c .before .before .before .before .before .args .g) (c .before .before .before .before .before .args .row .0) (c .before .before .before .before .before .pre) (c .before .before .edge-start .result) (c .before .before .edge-start .ensures))
 
--- src/lib.rt:76:5
 mul-result : tie.Need-mul-result
 mul-result c = omega (arith, fit-from (c .before .before .before .before .before .args .rows .now) (c .before .before .before .before .before .args .edges .now) (c .before .before .before .before .before .args .h) (c .before .before .before .before .before .args .g) (c .before .before .before .before .before .args .row .0) (c .before .before .before .before .before .pre) (c .before .before .edge-start .result) (c .before .before .edge-start .ensures))
 
--- src/lib.rt:76:5
 sub-result : tie.Need-sub-result
 sub-result c = search needs
 
--- src/lib.rt:76:5
 part-result-start : tie.Need-part-result-start
 part-result-start c = search needs
 
--- src/lib.rt:76:5
 part-result-end : tie.Need-part-result-end
 part-result-end c = fit-from (c .before .before .before .before .before .args .rows .now) (c .before .before .before .before .before .args .edges .now) (c .before .before .before .before .before .args .h) (c .before .before .before .before .before .args .g) (c .before .before .before .before .before .args .row .0) (c .before .before .before .before .before .pre) (c .before .before .edge-start .result) (c .before .before .edge-start .ensures)
 
--- src/lib.rt:70:1
 returns : tie.Need-returns
 returns c = parents-are (c .before .before .before .before .before .before .args .rows .now) (c .before .before .before .before .before .before .args .edges .now) (c .before .before .before .before .before .before .args .h) (c .before .before .before .before .before .before .args .g) (c .before .before .before .before .before .before .args .row .0) (c .before .before .before .before .before .before .pre) (c .before .before .before .edge-start .result) (c .before .before .before .edge-start .ensures)
 

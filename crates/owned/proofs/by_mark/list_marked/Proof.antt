@@ -1,3 +1,5 @@
+-- `list_marked` meets its contract. The invariant: the list holds the ids passed that have the mark, and its rest stayed (`Written`).
+-- Assumes nothing.
 use Prim.Native.Nat.{_≤_, _-_}
 use native.Mathlib.Omega.{arith}
 use mathlib.Core.Path.{_≡_, _∙_}
@@ -7,9 +9,6 @@ use Rattle.owned.proofs.Written.{Written, written-start, written-next, 
 use borrow.Author.Needs.{needs}
 use Rattle.owned.proofs.by_mark.list_marked.Statement.{statement}
 use Rattle.owned.proofs.by_mark.list_marked.Tie as tie
-use Rattle.owned.proofs.by_mark.list_marked.Reads as reads
-use Rattle.owned.proofs.by_mark.list_marked.Lts as lts
-use Rattle.owned.proofs.by_mark.list_one.Reads as list-one-reads
 
 abbrev Inv-loop : tie.InvT-loop
 Inv-loop w b k s mark list₀ len₀ i₀ list len i =
@@ -18,47 +17,36 @@ Inv-loop w b k s mark list₀ len₀ i₀ list len i =
 abbrev μ-loop : tie.MeasureT-loop
 μ-loop w b k s mark list₀ len₀ i₀ list len i = k - i
 
--- src/by_mark.rt:31:5
 loop-holds : tie.Need-loop-holds Inv-loop μ-loop
 loop-holds c = (search needs, search needs, search needs, written-start _ _ _ _ (c .before .before .args .list .now))
 
--- src/by_mark.rt:32:37
 add-list-one : tie.Need-add-list-one Inv-loop μ-loop
 add-list-one c = search needs
 
--- src/by_mark.rt:32:35
 mul-list-one : tie.Need-mul-list-one Inv-loop μ-loop
 mul-list-one c = search needs
 
--- src/by_mark.rt:32:35
 shared-slice-read-list-one : tie.Need-shared-slice-read-list-one Inv-loop μ-loop
 shared-slice-read-list-one c = search needs
 
--- src/by_mark.rt:32:53
 add-list-one-2 : tie.Need-add-list-one-2 Inv-loop μ-loop
 add-list-one-2 c = search needs
 
--- src/by_mark.rt:32:51
 mul-list-one-2 : tie.Need-mul-list-one-2 Inv-loop μ-loop
 mul-list-one-2 c = search needs
 
--- src/by_mark.rt:32:51
 shared-slice-read-list-one-2 : tie.Need-shared-slice-read-list-one-2 Inv-loop μ-loop
 shared-slice-read-list-one-2 c = search needs
 
--- src/by_mark.rt:32:9
 list-one-requires : tie.Need-list-one-requires Inv-loop μ-loop
 list-one-requires c κs = search needs
 
--- src/by_mark.rt:33:9
 add-i : tie.Need-add-i Inv-loop μ-loop
 add-i c = search needs
 
--- src/by_mark.rt:31:5
 loop-less : tie.Need-loop-less Inv-loop μ-loop
 loop-less c = search needs
 
--- src/by_mark.rt:31:5
 loop-again : tie.Need-loop-again Inv-loop μ-loop
 loop-again c =
     let s = c .before .before .before .before .before .before .before .before .before .before in
@@ -67,11 +55,9 @@ loop-again c =
     let e = written-next (s .args .w .now) (s .args .b) (s .args .s) (s .args .mark) (l .i) (l .len) (l .list) (s .args .list .now) _ _ (l .inv .3) (omega arith) (x .ensures .0) (x .ensures .1) in
     (search needs, omega (arith, e .1), x .kept .0 ∙ l .inv .2, e .0)
 
--- src/by_mark.rt:24:1
 same-length : tie.Need-same-length Inv-loop μ-loop
 same-length c = search needs
 
--- src/by_mark.rt:24:1
 returns : tie.Need-returns Inv-loop μ-loop
 returns c =
     let s = c .before .before .before .before in

@@ -1,56 +1,44 @@
+-- `mark_owned` meets its contract: marks cleared, raised by the history, and raised again by the completed list.
+-- Assumes nothing.
 use native.Mathlib.Omega.{arith}
 use mathlib.Core.Path.{_∙_}
 use Rattle.owned.proofs.Raising.{cleared, cleared-length, again-asks, owned-marks}
 use borrow.Author.Needs.{needs}
 use Rattle.owned.proofs.marks.mark_owned.Statement.{statement}
 use Rattle.owned.proofs.marks.mark_owned.Tie as tie
-use Rattle.owned.proofs.marks.mark_owned.Reads as reads
-use Rattle.owned.proofs.marks.mark_owned.Lts as lts
-use Rattle.owned.proofs.marks.raise_all.Reads as raise-all-reads
-use Rattle.words.proofs.clear.Reads as clear-reads
 
--- src/marks.rt:61:28
 add-clear : tie.Need-add-clear
 add-clear c = search needs
 
--- src/marks.rt:61:18
 mul-clear : tie.Need-mul-clear
 mul-clear c = search needs
 
--- src/marks.rt:61:18
 sub-clear : tie.Need-sub-clear
 sub-clear c = search needs
 
--- src/marks.rt:61:18
 part-clear-start : tie.Need-part-clear-start
 part-clear-start c = search needs
 
--- src/marks.rt:61:18
 part-clear-end : tie.Need-part-clear-end
 part-clear-end c = search needs
 
--- src/marks.rt:61:5
 clear-requires : tie.Need-clear-requires
 clear-requires c κs = search needs
 
--- src/marks.rt:62:5
 raise-all-requires : tie.Need-raise-all-requires
 raise-all-requires c κs =
     let s = c .before .before .before .before .before .before .before .before in
     (again-asks (s .args .b) (s .args .s) (s .args .k) (s .args .w .now) _ (s .pre .0) (s .pre .1) (s .pre .2) (cleared (c .before .before .before .before .before .before .before .before .args .b) (c .before .before .before .before .before .before .before .before .args .s) (c .before .before .before .before .before .before .before .before .args .k) (c .before .before .before .before .before .before .before .before .args .w .now) (c .before .before .before .clear .last .0) (c .before .before .before .before .before .before .before .before .pre .1) (c .before .before .before .clear .kept .0) (c .before .before .before .clear .ensures) .front) (cleared-length (c .before .before .before .before .before .before .before .before .args .s) (c .before .before .before .before .before .before .before .before .args .k) (c .before .before .before .before .before .before .before .before .args .w .now) (c .before .before .before .clear .last .0) (c .before .before .before .before .before .before .before .before .pre .1) (c .before .before .before .clear .kept .0)), λ e. omega arith)
 
--- src/marks.rt:63:5
 raise-all-requires-2 : tie.Need-raise-all-requires-2
 raise-all-requires-2 c κs =
     let s = c .before .before .before .before .before .before .before .before .before .before .before .before in
     let r = c .before .before .before .raise-all in
     (again-asks (s .args .b) (s .args .s) (s .args .k) (s .args .w .now) _ (s .pre .0) (s .pre .1) (s .pre .2) (r .ensures .front ∙ cleared (c .before .before .before .before .before .before .before .before .before .before .before .before .args .b) (c .before .before .before .before .before .before .before .before .before .before .before .before .args .s) (c .before .before .before .before .before .before .before .before .before .before .before .before .args .k) (c .before .before .before .before .before .before .before .before .before .before .before .before .args .w .now) (c .before .before .before .before .before .before .before .clear .last .0) (c .before .before .before .before .before .before .before .before .before .before .before .before .pre .1) (c .before .before .before .before .before .before .before .clear .kept .0) (c .before .before .before .before .before .before .before .clear .ensures) .front) (r .kept .0 ∙ cleared-length (c .before .before .before .before .before .before .before .before .before .before .before .before .args .s) (c .before .before .before .before .before .before .before .before .before .before .before .before .args .k) (c .before .before .before .before .before .before .before .before .before .before .before .before .args .w .now) (c .before .before .before .before .before .before .before .clear .last .0) (c .before .before .before .before .before .before .before .before .before .before .before .before .pre .1) (c .before .before .before .before .before .before .before .clear .kept .0)), λ e. omega arith)
 
--- src/marks.rt:50:1
 same-length : tie.Need-same-length
 same-length c = search needs
 
--- src/marks.rt:50:1
 returns : tie.Need-returns
 returns c =
     let s = c .before .before .before .before .before .before .before .before .before .before .before .before .before .before .before in

@@ -1,3 +1,5 @@
+-- `raise_all` meets its contract. The invariant: the marks are raised by the ids passed (`Raised`).
+-- Assumes nothing.
 use Prim.Native.Nat.{_≤_, _-_}
 use native.Mathlib.Omega.{arith}
 use mathlib.Core.Path.{_≡_, _∙_}
@@ -9,9 +11,6 @@ use Rattle.owned.proofs.Raising.{raised-start, raised-next, raised-end,
 use borrow.Author.Needs.{needs}
 use Rattle.owned.proofs.marks.raise_all.Statement.{statement}
 use Rattle.owned.proofs.marks.raise_all.Tie as tie
-use Rattle.owned.proofs.marks.raise_all.Reads as reads
-use Rattle.owned.proofs.marks.raise_all.Lts as lts
-use Rattle.owned.proofs.marks.raise_one.Reads as raise-one-reads
 
 abbrev Inv-loop : tie.InvT-loop
 Inv-loop w₀ b k s list from to j₀ w j =
@@ -20,36 +19,29 @@ Inv-loop w₀ b k s list from to j₀ w j =
 abbrev μ-loop : tie.MeasureT-loop
 μ-loop w₀ b k s list from to j₀ w j = length list - j
 
--- src/marks.rt:43:5
 loop-holds : tie.Need-loop-holds Inv-loop μ-loop
 loop-holds c =
     let s = c .before .before in
     (search needs, search needs, s .pre .0 .2, raised-start (s .args .list .now) (s .args .from) (s .args .to) (s .args .b) (s .args .s) (s .args .k) (s .args .w .now))
 
--- src/marks.rt:44:31
 mul-raise-one : tie.Need-mul-raise-one Inv-loop μ-loop
 mul-raise-one c = search needs
 
--- src/marks.rt:44:31
 shared-slice-read-raise-one : tie.Need-shared-slice-read-raise-one Inv-loop μ-loop
 shared-slice-read-raise-one c = search needs
 
--- src/marks.rt:44:9
 raise-one-requires : tie.Need-raise-one-requires Inv-loop μ-loop
 raise-one-requires c κs =
     let s = c .before .before .before .before .before .before in
     let l = c .before .before .before .loop in
     (s .pre .0 .0, omega (arith, s .pre .0 .1, l .inv .1), l .inv .2)
 
--- src/marks.rt:45:9
 add-j : tie.Need-add-j Inv-loop μ-loop
 add-j c = search needs
 
--- src/marks.rt:43:5
 loop-less : tie.Need-loop-less Inv-loop μ-loop
 loop-less c = search needs
 
--- src/marks.rt:43:5
 loop-again : tie.Need-loop-again Inv-loop μ-loop
 loop-again c =
     let s = c .before .before .before .before .before .before .before .before .before in
@@ -61,11 +53,9 @@ loop-again c =
       raised-next (s .args .list .now) (l .j) (s .args .from) (s .args .to) (s .args .b) (s .args .s) (s .args .k) (s .args .w .now) (l .w) _ (s .pre .1) (s .pre .0 .0) (c .before .before .before .before .before .loop-test .taken) (l .inv .3) (x .ensures),
     )
 
--- src/marks.rt:37:1
 same-length : tie.Need-same-length Inv-loop μ-loop
 same-length c = search needs
 
--- src/marks.rt:37:1
 returns : tie.Need-returns Inv-loop μ-loop
 returns c =
     let s = c .before .before .before .before in

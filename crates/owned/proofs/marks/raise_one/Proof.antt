@@ -1,65 +1,50 @@
+-- `raise_one` meets its contract: ids that ascend have one place for x, or none.
+-- Assumes nothing.
 use native.Mathlib.Omega.{arith}
 use Rattle.owned.proofs.Raising.{one-asks, hit-room, one-hit, one-miss}
 use borrow.Author.Needs.{needs}
 use Rattle.owned.proofs.marks.raise_one.Statement.{statement}
 use Rattle.owned.proofs.marks.raise_one.Tie as tie
-use Rattle.owned.proofs.marks.raise_one.Reads as reads
-use Rattle.owned.proofs.marks.raise_one.Lts as lts
-use Rattle.owned.proofs.marks.raise_word.Reads as raise-word-reads
-use Rattle.words.proofs.find_row.Reads as find-row-reads
 
--- src/marks.rt:30:39
 add-find-row : tie.Need-add-find-row
 add-find-row c = search needs
 
--- src/marks.rt:30:33
 mul-find-row : tie.Need-mul-find-row
 mul-find-row c = search needs
 
--- src/marks.rt:30:33
 sub-find-row : tie.Need-sub-find-row
 sub-find-row c = search needs
 
--- src/marks.rt:30:33
 part-find-row-start : tie.Need-part-find-row-start
 part-find-row-start c = search needs
 
--- src/marks.rt:30:33
 part-find-row-end : tie.Need-part-find-row-end
 part-find-row-end c = search needs
 
--- src/marks.rt:30:9
 find-row-requires : tie.Need-find-row-requires
 find-row-requires c κs = one-asks (c .before .before .before .args .b) (c .before .before .before .args .s) (c .before .before .before .args .k) (c .before .before .before .args .w .now) (c .before .before .before .pre .0) (c .before .before .before .pre .1) (c .before .before .before .pre .2)
 
--- src/marks.rt:31:22
 enum-known-found : tie.Need-enum-known-found
 enum-known-found c = search needs
 
--- src/marks.rt:32:23
 add-raise-word : tie.Need-add-raise-word
 add-raise-word c = omega (arith, hit-room (c .before .before .before .before .before .before .before .before .args .x) (c .before .before .before .before .before .before .before .before .args .from) (c .before .before .before .before .before .before .before .before .args .to) (c .before .before .before .before .before .before .before .before .args .b) (c .before .before .before .before .before .before .before .before .args .s) (c .before .before .before .before .before .before .before .before .args .k) (c .before .before .before .before .before .before .before .before .args .w .now) (c .before .before .before .before .before .before .before .before .pre .0) (c .before .before .before .before .before .before .before .before .pre .1) (c .before .before .before .before .before .before .before .before .pre .2) (c .before .before .before .before .find-row .result) (c .before .before .before .before .find-row .ensures) _ (c .before .before .found .given .1))
 
--- src/marks.rt:32:9
 raise-word-requires : tie.Need-raise-word-requires
 raise-word-requires c κs = hit-room (c .before .before .before .before .before .before .before .before .args .x) (c .before .before .before .before .before .before .before .before .args .from) (c .before .before .before .before .before .before .before .before .args .to) (c .before .before .before .before .before .before .before .before .args .b) (c .before .before .before .before .before .before .before .before .args .s) (c .before .before .before .before .before .before .before .before .args .k) (c .before .before .before .before .before .before .before .before .args .w .now) (c .before .before .before .before .before .before .before .before .pre .0) (c .before .before .before .before .before .before .before .before .pre .1) (c .before .before .before .before .before .before .before .before .pre .2) (c .before .before .before .before .find-row .result) (c .before .before .before .before .find-row .ensures) _ (c .before .before .found .given .1)
 
 enum-told : tie.Need-enum-told
 enum-told c = search needs
 
--- src/marks.rt:26:1
 same-length : tie.Need-same-length
 same-length c = search needs
 
--- src/marks.rt:26:1
 returns : tie.Need-returns
 returns c = one-hit (c .before .before .before .before .before .before .before .before .before .before .before .args .x) (c .before .before .before .before .before .before .before .before .before .before .before .args .from) (c .before .before .before .before .before .before .before .before .before .before .before .args .to) (c .before .before .before .before .before .before .before .before .before .before .before .args .b) (c .before .before .before .before .before .before .before .before .before .before .before .args .s) (c .before .before .before .before .before .before .before .before .before .before .before .args .k) (c .before .before .before .before .before .before .before .before .before .before .before .args .w .now) (c .before .before .before .before .before .before .before .before .before .before .before .pre .0) (c .before .before .before .before .before .before .before .before .before .before .before .pre .1) (c .before .before .before .before .before .before .before .before .before .before .before .pre .2) (c .before .before .before .before .before .before .before .find-row .result) (c .before .before .before .before .before .before .before .find-row .ensures) _ (c .before .before .before .before .before .found .given .1) _ (c .before .before .raise-word .ensures)
 
--- src/marks.rt:26:1
 same-length-2 : tie.Need-same-length-2
 same-length-2 c = search needs
 
--- src/marks.rt:26:1
 returns-2 : tie.Need-returns-2
 returns-2 c = one-miss (c .before .before .before .before .before .before .args .x) (c .before .before .before .before .before .before .args .from) (c .before .before .before .before .before .before .args .to) (c .before .before .before .before .before .before .args .b) (c .before .before .before .before .before .before .args .s) (c .before .before .before .before .before .before .args .k) (c .before .before .before .before .before .before .args .w .now) (c .before .before .before .before .before .before .pre .0) (c .before .before .before .before .before .before .pre .1) (c .before .before .before .before .before .before .pre .2) (c .before .before .find-row .result) (c .before .before .find-row .ensures) (c .enum-told .given .1)
 

@@ -1,44 +1,35 @@
+-- `is_root_row` meets its contract, by its two tests.
+-- Assumes nothing.
 use mathlib.Core.Path.{refl}
 use borrow.Author.Tests.{eq-eqb, ne-eqb}
 use borrow.Author.Needs.{needs}
 use Rattle.owned.proofs.roots.is_root_row.Statement.{statement}
 use Rattle.owned.proofs.roots.is_root_row.Tie as tie
-use Rattle.owned.proofs.roots.is_root_row.Reads as reads
-use Rattle.owned.proofs.roots.is_root_row.Lts as lts
 
--- src/roots.rt:16:15
 mul-row : tie.Need-mul-row
 mul-row c = search needs
 
--- src/roots.rt:17:10
 add-if1 : tie.Need-add-if1
 add-if1 c = search needs
 
--- src/roots.rt:17:5
 mul-if1 : tie.Need-mul-if1
 mul-if1 c = search needs
 
--- src/roots.rt:17:5
 shared-slice-read-if1 : tie.Need-shared-slice-read-if1
 shared-slice-read-if1 c = search needs
 
--- src/roots.rt:17:32
 add-result : tie.Need-add-result
 add-result c = search needs
 
--- src/roots.rt:17:27
 mul-result : tie.Need-mul-result
 mul-result c = search needs
 
--- src/roots.rt:17:27
 shared-slice-read-result : tie.Need-shared-slice-read-result
 shared-slice-read-result c = search needs
 
--- src/roots.rt:12:1
 returns : tie.Need-returns
 returns c = rw (eq-eqb _ _ (c .before .if1 .taken)) refl
 
--- src/roots.rt:12:1
 returns-2 : tie.Need-returns-2
 returns-2 c = rw (ne-eqb _ _ (c .if1 .left)) refl
 

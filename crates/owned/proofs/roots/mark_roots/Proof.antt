@@ -1,3 +1,5 @@
+-- `mark_roots` meets its contract. The invariant: the ids passed have their mark (`Marked`).
+-- Assumes nothing.
 use Prim.Native.Nat.{ℕ, _≤_, _-_}
 use native.Mathlib.Omega.{arith}
 use mathlib.Core.Path.{_≡_}
@@ -8,9 +10,6 @@ use Rattle.owned.proofs.Rooted.{marked-start, marked-next, marked-end}
 use borrow.Author.Needs.{needs}
 use Rattle.owned.proofs.roots.mark_roots.Statement.{statement}
 use Rattle.owned.proofs.roots.mark_roots.Tie as tie
-use Rattle.owned.proofs.roots.mark_roots.Reads as reads
-use Rattle.owned.proofs.roots.mark_roots.Lts as lts
-use Rattle.owned.proofs.roots.root_mark.Reads as root-mark-reads
 
 abbrev Inv-loop : tie.InvT-loop
 Inv-loop rows h w₀ b k s i₀ w i =
@@ -19,58 +18,45 @@ Inv-loop rows h w₀ b k s i₀ w i =
 abbrev μ-loop : tie.MeasureT-loop
 μ-loop rows h w₀ b k s i₀ w i = k - i
 
--- src/roots.rt:49:5
 loop-holds : tie.Need-loop-holds Inv-loop μ-loop
 loop-holds c = (search needs, search needs, marked-start (λ (x : ℕ). tick (rootOf (c .before .before .args .rows .now) (c .before .before .args .h) x)) (c .before .before .args .b) (c .before .before .args .s) (c .before .before .args .w .now))
 
--- src/roots.rt:50:19
 add-x : tie.Need-add-x Inv-loop μ-loop
 add-x c = search needs
 
--- src/roots.rt:50:17
 mul-x : tie.Need-mul-x Inv-loop μ-loop
 mul-x c = search needs
 
--- src/roots.rt:50:17
 slice-read-x : tie.Need-slice-read-x Inv-loop μ-loop
 slice-read-x c = search needs
 
--- src/roots.rt:51:20
 root-mark-requires : tie.Need-root-mark-requires Inv-loop μ-loop
 root-mark-requires c κs = search needs
 
--- src/roots.rt:51:11
 add-w : tie.Need-add-w Inv-loop μ-loop
 add-w c = search needs
 
--- src/roots.rt:51:9
 mul-w : tie.Need-mul-w Inv-loop μ-loop
 mul-w c = search needs
 
--- src/roots.rt:51:9
 slice-write-w : tie.Need-slice-write-w Inv-loop μ-loop
 slice-write-w c = search needs
 
--- src/roots.rt:52:9
 add-i : tie.Need-add-i Inv-loop μ-loop
 add-i c = search needs
 
--- src/roots.rt:49:5
 loop-less : tie.Need-loop-less Inv-loop μ-loop
 loop-less c = search needs
 
--- src/roots.rt:49:5
 loop-again : tie.Need-loop-again Inv-loop μ-loop
 loop-again c =
     let s = c .before .before .before .before .before .before in
     let l = c .before .before .before .loop in
     (search needs, simp length-set (l .inv .1), marked-next (λ (x : ℕ). tick (rootOf (c .before .before .before .before .before .before .args .rows .now) (c .before .before .before .before .before .before .args .h) x)) (c .before .before .before .before .before .before .args .b) (c .before .before .before .before .before .before .args .s) (c .before .before .before .before .before .before .args .w .now) (l .i) (s .args .k) (l .w) (c .root-mark .result) (c .before .before .loop-test .taken) (s .pre .1 .0) (omega (arith, l .inv .1)) (l .inv .2) (c .root-mark .ensures))
 
--- src/roots.rt:43:1
 same-length : tie.Need-same-length Inv-loop μ-loop
 same-length c = search needs
 
--- src/roots.rt:43:1
 returns : tie.Need-returns Inv-loop μ-loop
 returns c = marked-end (λ (x : ℕ). tick (rootOf (c .before .before .before .before .args .rows .now) (c .before .before .before .before .args .h) x)) (c .before .before .before .before .args .b) (c .before .before .before .before .args .s) (c .before .before .before .before .args .w .now) (c .before .loop .i) (c .before .before .before .before .args .k) (c .before .loop .w) (c .loop-test .left) (c .before .loop .inv .2)
 

@@ -1,52 +1,40 @@
+-- `answer_managed` meets its contract: one law of `Telling` for each way out.
+-- Assumes nothing.
 use Rattle.query.proofs.Telling.{managed-blocked, managed-read, managed-eligible}
 use borrow.Author.Needs.{needs}
 use Rattle.query.proofs.answer.answer_managed.Statement.{statement}
 use Rattle.query.proofs.answer.answer_managed.Tie as tie
-use Rattle.query.proofs.answer.answer_managed.Reads as reads
-use Rattle.query.proofs.answer.answer_managed.Lts as lts
-use Rattle.owned.proofs.by_mark.list_marked.Reads as list-marked-reads
 
--- src/answer.rt:53:9
 list-marked-requires : tie.Need-list-marked-requires
 list-marked-requires c κs = search needs
 
--- src/answer.rt:54:9
 list-marked-requires-2 : tie.Need-list-marked-requires-2
 list-marked-requires-2 c κs = search needs
 
--- src/answer.rt:56:9
 same-length : tie.Need-same-length
 same-length c = search needs
 
--- src/answer.rt:56:9
 same-length-2 : tie.Need-same-length-2
 same-length-2 c = search needs
 
--- src/answer.rt:56:9
 returns : tie.Need-returns
 returns c = search managed-blocked
 
--- src/answer.rt:59:9
 same-length-3 : tie.Need-same-length-3
 same-length-3 c = search needs
 
--- src/answer.rt:59:9
 same-length-4 : tie.Need-same-length-4
 same-length-4 c = search needs
 
--- src/answer.rt:59:9
 returns-2 : tie.Need-returns-2
 returns-2 c = search managed-read
 
--- src/answer.rt:41:1
 same-length-5 : tie.Need-same-length-5
 same-length-5 c = search needs
 
--- src/answer.rt:41:1
 same-length-6 : tie.Need-same-length-6
 same-length-6 c = search needs
 
--- src/answer.rt:41:1
 returns-3 : tie.Need-returns-3
 returns-3 c = search managed-eligible
 

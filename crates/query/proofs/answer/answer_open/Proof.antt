@@ -1,46 +1,35 @@
+-- `answer_open` meets its contract, by the mode.
+-- Assumes nothing.
 use Rattle.owned.specs.Marks.{withMark}
 use Rattle.query.proofs.Telling.{told-mode}
 use borrow.Author.Needs.{needs}
 use Rattle.query.proofs.answer.answer_open.Statement.{statement}
 use Rattle.query.proofs.answer.answer_open.Tie as tie
-use Rattle.query.proofs.answer.answer_open.Reads as reads
-use Rattle.query.proofs.answer.answer_open.Lts as lts
-use Rattle.query.proofs.answer.answer_managed.Reads as answer-managed-reads
-use Rattle.query.proofs.answer.answer_strict.Reads as answer-strict-reads
 
--- src/answer.rt:78:63
 enum-told : tie.Need-enum-told
 enum-told c = search needs
 
--- src/answer.rt:78:33
 answer-strict-requires : tie.Need-answer-strict-requires
 answer-strict-requires c κs = search needs
 
--- src/answer.rt:79:71
 enum-told-2 : tie.Need-enum-told-2
 enum-told-2 c = search needs
 
--- src/answer.rt:79:40
 answer-managed-requires : tie.Need-answer-managed-requires
 answer-managed-requires c κs = search needs
 
--- src/answer.rt:64:1
 same-length : tie.Need-same-length
 same-length c = search needs
 
--- src/answer.rt:64:1
 returns : tie.Need-returns
 returns c = told-mode (c .before .before .before .before .before .before .before .before .before .args .mode) _ (c .before .before .before .before .before .before .before .before .before .args .id) (withMark (c .before .before .before .before .before .before .before .before .before .args .w .now) (c .before .before .before .before .before .before .before .before .before .args .b) (c .before .before .before .before .before .before .before .before .before .args .s) 0 (c .before .before .before .before .before .before .before .before .before .args .k)) (withMark (c .before .before .before .before .before .before .before .before .before .args .w .now) (c .before .before .before .before .before .before .before .before .before .args .b) (c .before .before .before .before .before .before .before .before .before .args .s) 1 (c .before .before .before .before .before .before .before .before .before .args .k)) _ _ _ _ _ (c .before .before .before .before .enum-told .given .1) (c .before .before .answer-strict .ensures (c .before .before .before .before .before .before .before .before .before .args .second .now))
 
--- src/answer.rt:64:1
 same-length-2 : tie.Need-same-length-2
 same-length-2 c = search needs
 
--- src/answer.rt:64:1
 same-length-3 : tie.Need-same-length-3
 same-length-3 c = search needs
 
--- src/answer.rt:64:1
 returns-2 : tie.Need-returns-2
 returns-2 c = search told-mode
 

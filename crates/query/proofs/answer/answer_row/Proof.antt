@@ -1,3 +1,5 @@
+-- `answer_row` meets its contract: where nothing is pruned nothing was written, and the marks tell remote and incomplete ancestors.
+-- Assumes nothing.
 use native.Mathlib.Omega.{arith}
 use Rattle.words.specs.Part.{part}
 use Rattle.owned.proofs.Raising.{again-asks}
@@ -6,55 +8,40 @@ use Rattle.query.proofs.Telling.{told-pruned, told-open, told-owned}
 use borrow.Author.Needs.{needs}
 use Rattle.query.proofs.answer.answer_row.Statement.{statement}
 use Rattle.query.proofs.answer.answer_row.Tie as tie
-use Rattle.query.proofs.answer.answer_row.Reads as reads
-use Rattle.query.proofs.answer.answer_row.Lts as lts
-use Rattle.query.proofs.answer.answer_open.Reads as answer-open-reads
-use Rattle.query.proofs.answer.list_pruned.Reads as list-pruned-reads
-use Rattle.owned.proofs.marks.mark_owned.Reads as mark-owned-reads
 
--- src/answer.rt:121:9
 list-pruned-requires : tie.Need-list-pruned-requires
 list-pruned-requires c κs = search needs
 
--- src/answer.rt:123:9
 same-length : tie.Need-same-length
 same-length c = search needs
 
--- src/answer.rt:123:9
 same-length-2 : tie.Need-same-length-2
 same-length-2 c = search needs
 
--- src/answer.rt:123:9
 returns : tie.Need-returns
 returns c =
     let s = c .before .before .before .before .before .before .before .before .before .before .before .before .before .before in
     let l = c .before .before .before .before .before .list-pruned in
     told-pruned (s .args .mode) (s .args .id) (remoteIn (c .before .before .before .before .before .before .before .before .before .before .before .before .before .before .args .history .now) (c .before .before .before .before .before .before .before .before .before .before .before .before .before .before .args .completed .now) (part (c .before .before .before .before .before .before .before .before .before .before .before .before .before .before .args .w .now) (c .before .before .before .before .before .before .before .before .before .before .before .before .before .before .args .b) (c .before .before .before .before .before .before .before .before .before .before .before .before .before .before .args .k))) (incompleteIn (c .before .before .before .before .before .before .before .before .before .before .before .before .before .before .args .history .now) (c .before .before .before .before .before .before .before .before .before .before .before .before .before .before .args .completed .now) (part (c .before .before .before .before .before .before .before .before .before .before .before .before .before .before .args .w .now) (c .before .before .before .before .before .before .before .before .before .before .before .before .before .before .args .b) (c .before .before .before .before .before .before .before .before .before .before .before .before .before .before .args .k))) (s .args .first .now) _ (s .args .second .now) (l .result) (prunedIn (c .before .before .before .before .before .before .before .before .before .before .before .before .before .before .args .rows .now) (c .before .before .before .before .before .before .before .before .before .before .before .before .before .before .args .h) (c .before .before .before .before .before .before .before .before .before .before .before .before .before .before .args .id) (part (c .before .before .before .before .before .before .before .before .before .before .before .before .before .before .args .w .now) (c .before .before .before .before .before .before .before .before .before .before .before .before .before .before .args .b) (c .before .before .before .before .before .before .before .before .before .before .before .before .before .before .args .k))) (l .ensures .0, l .ensures .1 .0) (c .if1 .taken)
 
--- src/answer.rt:125:5
 mark-owned-requires : tie.Need-mark-owned-requires
 mark-owned-requires c κs =
     let s = c .before .before .before .before .before .before .before .before .before .before .before .before .before .before .before in
     let l = c .before .before .before .before .before .before .list-pruned in
     again-asks (s .args .b) (s .args .s) (s .args .k) (s .args .w .now) _ (s .pre .1 .0 .0) (s .pre .1 .0 .1) (s .pre .1 .0 .2) (l .ensures .1 .1) (l .kept .1 .1 .1 .0)
 
--- src/answer.rt:126:5
 answer-open-requires : tie.Need-answer-open-requires
 answer-open-requires c κs = search needs
 
--- src/answer.rt:102:1
 same-length-3 : tie.Need-same-length-3
 same-length-3 c = search needs
 
--- src/answer.rt:102:1
 same-length-4 : tie.Need-same-length-4
 same-length-4 c = search needs
 
--- src/answer.rt:102:1
 same-length-5 : tie.Need-same-length-5
 same-length-5 c = search needs
 
--- src/answer.rt:102:1
 returns-2 : tie.Need-returns-2
 returns-2 c =
     let s = c .before .before .before .before .before .before .before .before .before .before .before .before .before .before .before .before .before .before .before .before .before .before .before .before .before .before in

@@ -1,3 +1,5 @@
+-- `list_pruned` meets its contract: the segment itself, or the ancestors that have a root's mark.
+-- Assumes nothing.
 use native.Mathlib.Omega.{arith}
 use mathlib.Core.Path.{refl}
 use Rattle.lists.specs.Sets.{keep}
@@ -7,48 +9,34 @@ use Rattle.query.proofs.Telling.{put-one, put-rest, pruned-listed}
 use borrow.Author.Needs.{needs}
 use Rattle.query.proofs.answer.list_pruned.Statement.{statement}
 use Rattle.query.proofs.answer.list_pruned.Tie as tie
-use Rattle.query.proofs.answer.list_pruned.Reads as reads
-use Rattle.query.proofs.answer.list_pruned.Lts as lts
-use Rattle.owned.proofs.by_mark.list_marked.Reads as list-marked-reads
-use Rattle.owned.proofs.roots.is_root.Reads as is-root-reads
-use Rattle.owned.proofs.roots.mark_roots.Reads as mark-roots-reads
 
--- src/answer.rt:100:8
 is-root-requires : tie.Need-is-root-requires
 is-root-requires c κs = search needs
 
--- src/answer.rt:101:9
 slice-write-first : tie.Need-slice-write-first
 slice-write-first c = search needs
 
--- src/answer.rt:102:9
 same-length : tie.Need-same-length
 same-length c = search needs
 
--- src/answer.rt:102:9
 returns : tie.Need-returns
 returns c =
     let s = c .before .before .before .before .before in
     let p = put-one (c .before .is-root .result) (rootOf (s .args .rows .now) (s .args .h) (s .args .id)) (s .args .id) (keep (rootOf (s .args .rows .now) (s .args .h)) (part (s .args .w .now) (s .args .b) (s .args .k))) (s .args .first .now) (c .before .is-root .ensures) (c .if1 .taken) (omega (arith, s .pre .1 .2)) in
     (p .0, (p .1, refl))
 
--- src/answer.rt:104:5
 mark-roots-requires : tie.Need-mark-roots-requires
 mark-roots-requires c κs = search needs
 
--- src/answer.rt:105:5
 list-marked-requires : tie.Need-list-marked-requires
 list-marked-requires c κs = search needs
 
--- src/answer.rt:84:1
 same-length-2 : tie.Need-same-length-2
 same-length-2 c = search needs
 
--- src/answer.rt:84:1
 same-length-3 : tie.Need-same-length-3
 same-length-3 c = search needs
 
--- src/answer.rt:84:1
 returns-2 : tie.Need-returns-2
 returns-2 c =
     let s = c .before .before .before .before .before .before .before .before .before .before .before .before .before .before in

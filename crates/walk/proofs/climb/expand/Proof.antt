@@ -1,63 +1,50 @@
+-- `expand` meets its contract: the words at the front of the work area say where the stretch of the row is.
+-- Assumes nothing.
 use Prim.Native.Nat.{_+_, _≤_}
 use native.Mathlib.Omega.{arith}
 use mathlib.Core.Path.{refl}
 use lib.ListN.{length, getD}
 use Rattle.walk.proofs.Turns.{stretch-end, stretch-size, expanded}
 use borrow.Author.Needs.{needs}
-use Rattle.walk.proofs.expand.Statement.{statement}
-use Rattle.walk.proofs.expand.Tie as tie
-use Rattle.walk.proofs.expand.Reads as reads
-use Rattle.walk.proofs.expand.Lts as lts
-use Rattle.walk.proofs.meet_parents.Reads as meet-parents-reads
-use Rattle.walk.proofs.parent_count.Reads as parent-count-reads
+use Rattle.walk.proofs.climb.expand.Statement.{statement}
+use Rattle.walk.proofs.climb.expand.Tie as tie
 
 -- the stretch of the row lies in the table
 end : (c : tie.After-parent-count) → getD (c .before .before .before .before .before .args .w .now) (c .before .before .before .before .before .args .r) 0 + c .parent-count .result ≤ length (c .before .before .before .before .before .args .edges .now)
 end c = stretch-end (c .before .before .before .before .before .args .rows .now) (c .before .before .before .before .before .args .edges .now) (c .before .before .before .before .before .args .n) (c .before .before .before .before .before .pre .0 .0) (c .before .before .before .before .before .args .r) (c .before .before .before .before .before .pre .0 .1) (c .before .before .before .before .before .args .w .now) (c .before .before .before .before .before .pre .0 .2) (c .parent-count .result) (c .parent-count .ensures)
 
--- src/lib.rt:104:16
 mul-from : tie.Need-mul-from
 mul-from c = search needs
 
--- src/lib.rt:104:16
 slice-read-from : tie.Need-slice-read-from
 slice-read-from c = search needs
 
--- src/lib.rt:105:9
 parent-count-requires : tie.Need-parent-count-requires
 parent-count-requires c κs = search needs
 
--- src/lib.rt:106:40
 add-meet-parents : tie.Need-add-meet-parents
 add-meet-parents c = omega (arith, end c)
 
--- src/lib.rt:106:27
 mul-meet-parents : tie.Need-mul-meet-parents
 mul-meet-parents c = omega (arith, end c)
 
--- src/lib.rt:106:27
 sub-meet-parents : tie.Need-sub-meet-parents
 sub-meet-parents c = search needs
 
--- src/lib.rt:106:27
 part-meet-parents-start : tie.Need-part-meet-parents-start
 part-meet-parents-start c = search needs
 
--- src/lib.rt:106:27
 part-meet-parents-end : tie.Need-part-meet-parents-end
 part-meet-parents-end c = end c
 
--- src/lib.rt:106:5
 meet-parents-requires : tie.Need-meet-parents-requires
 meet-parents-requires c κs =
     let s = c .before .before .before .before .before .before .before in
     ((omega (arith, s .pre .0 .0 .size), s .pre .0 .0 .up), (s .pre .1 .0, omega (arith, stretch-size (c .before .before .before .before .before .before .before .args .rows .now) (c .before .before .before .before .before .before .before .args .edges .now) (c .before .before .before .before .before .before .before .args .n) (c .before .before .before .before .before .before .before .pre .0 .0) (c .before .before .before .before .before .before .before .args .r) (c .before .before .before .before .before .before .before .pre .0 .1) (c .before .before .before .before .before .before .before .args .w .now) (c .before .before .before .before .before .before .before .pre .0 .2) (c .before .before .parent-count .result) (c .before .before .parent-count .ensures)), s .pre .1 .2))
 
--- src/lib.rt:91:1
 same-length : tie.Need-same-length
 same-length c = search needs
 
--- src/lib.rt:91:1
 returns : tie.Need-returns
 returns c =
     let s = c .before .before .before .before .before .before .before .before .before .before in

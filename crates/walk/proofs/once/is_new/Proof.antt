@@ -1,52 +1,41 @@
+-- `is_new` meets its contract, by its two tests.
+-- Assumes nothing.
 use mathlib.Core.Path.{refl}
 use borrow.Author.Tests.{eq-eqb, ne-eqb}
 use borrow.Author.Needs.{needs}
-use Rattle.walk.proofs.is_new.Statement.{statement}
-use Rattle.walk.proofs.is_new.Tie as tie
-use Rattle.walk.proofs.is_new.Reads as reads
-use Rattle.walk.proofs.is_new.Lts as lts
+use Rattle.walk.proofs.once.is_new.Statement.{statement}
+use Rattle.walk.proofs.once.is_new.Tie as tie
 
--- src/lib.rt:143:9
 returns : tie.Need-returns
 returns c = rw (eq-eqb _ _ (c .if1 .taken)) refl
 
--- src/lib.rt:145:11
 mul-result : tie.Need-mul-result
 mul-result c = search needs
 
--- src/lib.rt:145:7
 add-result : tie.Need-add-result
 add-result c = search needs
 
--- src/lib.rt:145:5
 mul-result-2 : tie.Need-mul-result-2
 mul-result-2 c = search needs
 
--- src/lib.rt:145:5
 shared-slice-read-result : tie.Need-shared-slice-read-result
 shared-slice-read-result c = search needs
 
--- src/lib.rt:145:32
 sub-result : tie.Need-sub-result
 sub-result c = search needs
 
--- src/lib.rt:145:27
 mul-result-3 : tie.Need-mul-result-3
 mul-result-3 c = search needs
 
--- src/lib.rt:145:23
 add-result-2 : tie.Need-add-result-2
 add-result-2 c = search needs
 
--- src/lib.rt:145:21
 mul-result-4 : tie.Need-mul-result-4
 mul-result-4 c = search needs
 
--- src/lib.rt:145:21
 shared-slice-read-result-2 : tie.Need-shared-slice-read-result-2
 shared-slice-read-result-2 c = search needs
 
--- src/lib.rt:138:1
 returns-2 : tie.Need-returns-2
 returns-2 c = rw (ne-eqb _ _ (c .before .before .if1 .left)) refl
 

@@ -1,67 +1,52 @@
+-- `meet_parent` meets its contract: one reference read, and its row met if it has one; laws of `Steps`.
+-- Assumes nothing.
 use mathlib.Core.Path.{_∙_}
 use lib.ListN.{length-set}
 use Rattle.walk.proofs.Steps.{meet-asks, meet-found, meet-nothing}
 use borrow.Author.Needs.{needs}
-use Rattle.walk.proofs.meet_parent.Statement.{statement}
-use Rattle.walk.proofs.meet_parent.Tie as tie
-use Rattle.walk.proofs.meet_parent.Reads as reads
-use Rattle.walk.proofs.meet_parent.Lts as lts
-use Rattle.walk.proofs.add_row.Reads as add-row-reads
-use Rattle.words.proofs.find_row.Reads as find-row-reads
+use Rattle.walk.proofs.climb.meet_parent.Statement.{statement}
+use Rattle.walk.proofs.climb.meet_parent.Tie as tie
 
--- src/lib.rt:51:7
 mul-w : tie.Need-mul-w
 mul-w c = search needs
 
--- src/lib.rt:51:15
 mul-w-2 : tie.Need-mul-w-2
 mul-w-2 c = search needs
 
--- src/lib.rt:51:7
 add-w : tie.Need-add-w
 add-w c = search needs
 
--- src/lib.rt:51:5
 mul-w-3 : tie.Need-mul-w-3
 mul-w-3 c = search needs
 
--- src/lib.rt:51:5
 slice-write-w : tie.Need-slice-write-w
 slice-write-w c = search needs
 
--- src/lib.rt:52:9
 find-row-requires : tie.Need-find-row-requires
 find-row-requires c κs = search needs
 
--- src/lib.rt:54:19
 enum-known-found : tie.Need-enum-known-found
 enum-known-found c = search needs
 
--- src/lib.rt:54:25
 add-row-requires : tie.Need-add-row-requires
 add-row-requires c κs =
     let s = c .before .before .before .before .before .before .before in
     meet-asks (s .args .rows .now) (s .args .n) (s .args .len) (s .args .m) (s .args .p) (s .args .w .now) (s .pre .1 .0) (s .pre .1 .1) (s .pre .1 .2) (c .before .before .before .before .find-row .result) (c .before .before .before .before .find-row .ensures) _ (c .before .before .found .given .1)
 
--- src/lib.rt:55:27
 enum-told : tie.Need-enum-told
 enum-told c = search needs
 
--- src/lib.rt:46:1
 same-length : tie.Need-same-length
 same-length c = c .before .before .add-row .kept .1 .1 .1 .0 ∙ simp length-set
 
--- src/lib.rt:46:1
 returns : tie.Need-returns
 returns c =
     let s = c .before .before .before .before .before .before .before .before .before .before in
     meet-found (s .args .rows .now) (s .args .n) (s .args .len) (s .args .m) (s .args .p) (s .args .w .now) (s .pre .1 .0) (s .pre .1 .1) (s .pre .1 .2) (c .before .before .before .before .before .before .before .find-row .result) (c .before .before .before .before .before .before .before .find-row .ensures) _ _ _ (c .before .before .before .before .before .found .given .1) (c .before .before .add-row .ensures)
 
--- src/lib.rt:46:1
 same-length-2 : tie.Need-same-length-2
 same-length-2 c = search needs
 
--- src/lib.rt:46:1
 returns-2 : tie.Need-returns-2
 returns-2 c =
     let s = c .before .before .before .before .before in

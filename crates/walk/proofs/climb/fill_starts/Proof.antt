@@ -1,3 +1,5 @@
+-- `fill_starts` meets its contract. The invariant: the rows passed have their word, and `at` is where the edges of the next begin.
+-- Assumes nothing.
 use Prim.Native.Nat.{ℕ, _+_, _≤_, _-_, _*_}
 use mathlib.Core.Path.{_≡_, _∙_, sym, ap}
 use native.Mathlib.Omega.{arith}
@@ -7,10 +9,8 @@ use Rattle.rules.proofs.Places.{start-next, start-room}
 use Rattle.walk.specs.Met.{StartsIn}
 use Rattle.walk.proofs.Steps.{starts-next, starts-end}
 use borrow.Author.Needs.{needs}
-use Rattle.walk.proofs.fill_starts.Statement.{statement}
-use Rattle.walk.proofs.fill_starts.Tie as tie
-use Rattle.walk.proofs.fill_starts.Reads as reads
-use Rattle.walk.proofs.fill_starts.Lts as lts
+use Rattle.walk.proofs.climb.fill_starts.Statement.{statement}
+use Rattle.walk.proofs.climb.fill_starts.Tie as tie
 
 abbrev Inv-loop : tie.InvT-loop
 Inv-loop rows n g w₀ at₀ i₀ w at i =
@@ -23,74 +23,57 @@ abbrev μ-loop : tie.MeasureT-loop
 room : (c : tie.In-loop Inv-loop μ-loop) → startOf heldWidth (c .before .before .args .rows .now) (c .before .loop .i) + parentsAt (c .before .before .args .rows .now) (c .before .loop .i * heldWidth) + childrenAt (c .before .before .args .rows .now) (c .before .loop .i * heldWidth) ≤ c .before .before .args .g
 room c = start-room heldWidth (c .before .before .args .rows .now) (c .before .before .args .n) (c .before .loop .i) (c .before .before .args .g) (c .before .before .pre .1 .0) (c .loop-test .taken)
 
--- src/lib.rt:22:5
 loop-holds : tie.Need-loop-holds Inv-loop μ-loop
 loop-holds c = (search needs, search needs, search needs, λ j k. absurd (omega arith))
 
--- src/lib.rt:23:9
 mul-w : tie.Need-mul-w Inv-loop μ-loop
 mul-w c = search needs
 
--- src/lib.rt:23:9
 slice-write-w : tie.Need-slice-write-w Inv-loop μ-loop
 slice-write-w c = search needs
 
--- src/lib.rt:24:19
 mul-row : tie.Need-mul-row Inv-loop μ-loop
 mul-row c = search needs
 
--- src/lib.rt:25:24
 add-at : tie.Need-add-at Inv-loop μ-loop
 add-at c = search needs
 
--- src/lib.rt:25:19
 mul-at : tie.Need-mul-at Inv-loop μ-loop
 mul-at c = search needs
 
--- src/lib.rt:25:19
 shared-slice-read-at : tie.Need-shared-slice-read-at Inv-loop μ-loop
 shared-slice-read-at c = search needs
 
--- src/lib.rt:25:14
 add-at-2 : tie.Need-add-at-2 Inv-loop μ-loop
 add-at-2 c = omega (arith, room (c .before))
 
--- src/lib.rt:25:49
 add-at-3 : tie.Need-add-at-3 Inv-loop μ-loop
 add-at-3 c = search needs
 
--- src/lib.rt:25:44
 mul-at-2 : tie.Need-mul-at-2 Inv-loop μ-loop
 mul-at-2 c = search needs
 
--- src/lib.rt:25:44
 shared-slice-read-at-2 : tie.Need-shared-slice-read-at-2 Inv-loop μ-loop
 shared-slice-read-at-2 c = search needs
 
--- src/lib.rt:25:14
 add-at-4 : tie.Need-add-at-4 Inv-loop μ-loop
 add-at-4 c = omega (arith, room (c .before .before))
 
--- src/lib.rt:26:9
 add-i : tie.Need-add-i Inv-loop μ-loop
 add-i c = search needs
 
--- src/lib.rt:22:5
 loop-less : tie.Need-loop-less Inv-loop μ-loop
 loop-less c = search needs
 
--- src/lib.rt:22:5
 loop-again : tie.Need-loop-again Inv-loop μ-loop
 loop-again c =
     let l = c .before .before .before .loop in
     let a = c .before .before .before .before .args in
     (search needs, search needs, ap (λ (k : ℕ). k + parentsAt (a .rows .now) (l .i * heldWidth) + childrenAt (a .rows .now) (l .i * heldWidth)) (l .inv .2) ∙ sym (start-next heldWidth (a .rows .now) (l .i)), starts-next (a .rows .now) (l .i) (l .at) (l .w) (omega arith) (l .inv .3) (l .inv .2))
 
--- src/lib.rt:14:1
 same-length : tie.Need-same-length Inv-loop μ-loop
 same-length c = search needs
 
--- src/lib.rt:14:1
 returns : tie.Need-returns Inv-loop μ-loop
 returns c = starts-end _ _ _ (c .before .loop .w) (c .loop-test .left) (c .before .loop .inv .3)
 

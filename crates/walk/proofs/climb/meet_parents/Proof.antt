@@ -1,3 +1,5 @@
+-- `meet_parents` meets its contract. The invariant: the parents to come, from what is met so far, give what all of them give (`Passing`).
+-- Assumes nothing.
 use Prim.Native.Nat.{_≤_, _-_}
 use native.Mathlib.Omega.{arith}
 use mathlib.Core.Path.{_≡_, _∙_}
@@ -7,11 +9,8 @@ use Rattle.words.proofs.TableLaws.{length-ids}
 use Rattle.rules.specs.Tables.{heldWidth}
 use Rattle.walk.proofs.Turns.{Passing, passing-start, passing-next, passing-end}
 use borrow.Author.Needs.{needs}
-use Rattle.walk.proofs.meet_parents.Statement.{statement}
-use Rattle.walk.proofs.meet_parents.Tie as tie
-use Rattle.walk.proofs.meet_parents.Reads as reads
-use Rattle.walk.proofs.meet_parents.Lts as lts
-use Rattle.walk.proofs.meet_parent.Reads as meet-parent-reads
+use Rattle.walk.proofs.climb.meet_parents.Statement.{statement}
+use Rattle.walk.proofs.climb.meet_parents.Tie as tie
 
 abbrev Inv-loop : tie.InvT-loop
 Inv-loop rows n parents len m w₀ l₀ j₀ w l j =
@@ -20,40 +19,32 @@ Inv-loop rows n parents len m w₀ l₀ j₀ w l j =
 abbrev μ-loop : tie.MeasureT-loop
 μ-loop rows n parents len m w₀ l₀ j₀ w l j = length parents - j
 
--- src/lib.rt:75:5
 loop-holds : tie.Need-loop-holds Inv-loop μ-loop
 loop-holds c =
     let s = c .before .before .before in
     (search needs, search needs, search needs, passing-start _ _ (s .args .n) (s .args .len) (s .args .m) (s .args .w .now) (s .pre .1 .2))
 
--- src/lib.rt:76:34
 mul-meet-parent : tie.Need-mul-meet-parent Inv-loop μ-loop
 mul-meet-parent c = search needs
 
--- src/lib.rt:76:34
 shared-slice-read-meet-parent : tie.Need-shared-slice-read-meet-parent Inv-loop μ-loop
 shared-slice-read-meet-parent c = search needs
 
--- src/lib.rt:76:49
 add-meet-parent : tie.Need-add-meet-parent Inv-loop μ-loop
 add-meet-parent c = search needs
 
--- src/lib.rt:76:9
 meet-parent-requires : tie.Need-meet-parent-requires Inv-loop μ-loop
 meet-parent-requires c κs =
     let s = c .before .before .before .before .before .before .before in
     let l = c .before .before .before .loop in
     (s .pre .0, (l .inv .1, omega arith, l .inv .3 .held))
 
--- src/lib.rt:77:9
 add-j : tie.Need-add-j Inv-loop μ-loop
 add-j c = search needs
 
--- src/lib.rt:75:5
 loop-less : tie.Need-loop-less Inv-loop μ-loop
 loop-less c = search needs
 
--- src/lib.rt:75:5
 loop-again : tie.Need-loop-again Inv-loop μ-loop
 loop-again c =
     let s = c .before .before .before .before .before .before .before .before .before .before in
@@ -61,11 +52,9 @@ loop-again c =
     let m = c .before .before .meet-parent in
     (search needs, m .ensures .1, m .kept .1 .1 .1 .1 .1 .0 ∙ l .inv .2, passing-next (ids (s .args .rows .now) heldWidth (s .args .n)) (s .args .parents .now) (s .args .n) (s .args .len) (s .args .m) (s .args .w .now) (length-ids _ _ _) (l .j) (l .l) (l .w) (l .inv .3) _ _ (c .before .before .before .before .before .loop-test .taken) (m .ensures))
 
--- src/lib.rt:61:1
 same-length : tie.Need-same-length Inv-loop μ-loop
 same-length c = search needs
 
--- src/lib.rt:61:1
 returns : tie.Need-returns Inv-loop μ-loop
 returns c =
     let s = c .before .before .before .before .before in
