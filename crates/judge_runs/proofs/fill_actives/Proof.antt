@@ -1,0 +1,61 @@
+-- The rows are filled in turn: the word index is 11 times the row index, which stays within what is asked.
+-- Assumes nothing.
+use lib.ListN.{length}
+use mathlib.Core.Path.{_≡_}
+use Prim.Native.Nat.{_-_, _*_, _≤_}
+use borrow.Author.Needs.{needs}
+use Rattle.judge_runs.proofs.fill_actives.Statement.{statement}
+use Rattle.judge_runs.proofs.fill_actives.Tie as tie
+
+abbrev Inv-loop : tie.InvT-loop
+Inv-loop rows₀ n i₀ at₀ rows i at = (i ≤ n) × (at ≡ 11 * i) × (length rows ≡ length rows₀)
+
+abbrev μ-loop : tie.MeasureT-loop
+μ-loop rows₀ n i₀ at₀ rows i at = n - i
+
+loop-holds : tie.Need-loop-holds Inv-loop μ-loop
+loop-holds c = search needs
+
+sub-active-row : tie.Need-sub-active-row Inv-loop μ-loop
+sub-active-row c = search needs
+
+mul-active-row : tie.Need-mul-active-row Inv-loop μ-loop
+mul-active-row c = search needs
+
+active-row-requires : tie.Need-active-row-requires Inv-loop μ-loop
+active-row-requires c κs = search needs
+
+add-i : tie.Need-add-i Inv-loop μ-loop
+add-i c = search needs
+
+add-at : tie.Need-add-at Inv-loop μ-loop
+add-at c = search needs
+
+loop-less : tie.Need-loop-less Inv-loop μ-loop
+loop-less c = search needs
+
+loop-again : tie.Need-loop-again Inv-loop μ-loop
+loop-again c = search needs
+
+same-length : tie.Need-same-length Inv-loop μ-loop
+same-length c = search needs
+
+returns : tie.Need-returns Inv-loop μ-loop
+returns c = search needs
+
+pub fill-actives-spec : {M : Type 1} → statement M
+fill-actives-spec =
+    tie.close
+    (tie.spec
+    Inv-loop
+    μ-loop
+    loop-holds
+    sub-active-row
+    mul-active-row
+    active-row-requires
+    add-i
+    add-at
+    loop-less
+    loop-again
+    same-length
+    returns)
