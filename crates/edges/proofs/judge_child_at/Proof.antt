@@ -1,51 +1,39 @@
+-- `edges::judge_child_at` meets its contract: each need is arithmetic, a law that is imported, or what a callee promised.
+-- Assumes nothing.
 use Rattle.answers.proofs.Judging.{judging, chain}
 use Rattle.edges.specs.Links.{childAt}
 use borrow.Author.Needs.{needs}
 use Rattle.edges.proofs.judge_child_at.Statement.{statement}
 use Rattle.edges.proofs.judge_child_at.Tie as tie
-use Rattle.edges.proofs.judge_child_at.Reads as reads
-use Rattle.edges.proofs.judge_child_at.Lts as lts
-use Rattle.answers.proofs.refuse.Reads as refuse-reads
-use Rattle.edges.proofs.lacks_pair.Reads as lacks-pair-reads
 
--- src/lib.rt:85:23
 mul-child : tie.Need-mul-child
 mul-child c = search needs
 
--- src/lib.rt:85:17
 mul-child-2 : tie.Need-mul-child-2
 mul-child-2 c = search needs
 
--- src/lib.rt:85:17
 shared-slice-read-child : tie.Need-shared-slice-read-child
 shared-slice-read-child c = search needs
 
--- src/lib.rt:86:24
 mul-parent : tie.Need-mul-parent
 mul-parent c = search needs
 
--- src/lib.rt:86:18
 mul-parent-2 : tie.Need-mul-parent-2
 mul-parent-2 c = search needs
 
--- src/lib.rt:86:18
 shared-slice-read-parent : tie.Need-shared-slice-read-parent
 shared-slice-read-parent c = search needs
 
--- src/lib.rt:87:8
 lacks-pair-requires : tie.Need-lacks-pair-requires
 lacks-pair-requires c κs = search needs
 
--- src/lib.rt:88:9
 refuse-requires : tie.Need-refuse-requires
 refuse-requires c κs = search needs
 
--- src/lib.rt:88:9
 returns : tie.Need-returns
 unfolding childAt
 returns c = search chain
 
--- src/lib.rt:78:1
 returns-2 : tie.Need-returns-2
 unfolding childAt
 returns-2 c = search chain

@@ -1,3 +1,5 @@
+-- `edges::judge_links` meets its contract: each need is arithmetic, a law that is imported, or what a callee promised.
+-- Assumes nothing.
 use Prim.Native.Nat.{_-_, _<_, _≤_, _*_, _+_}
 use mathlib.Core.Path.{_≡_, refl, sym, ap, _∙_}
 use native.Mathlib.Omega.{arith}
@@ -8,9 +10,6 @@ use Rattle.edges.proofs.Told.{links-start, links-end, links-refused, li
 use borrow.Author.Needs.{needs}
 use Rattle.edges.proofs.judge_links.Statement.{statement}
 use Rattle.edges.proofs.judge_links.Tie as tie
-use Rattle.edges.proofs.judge_links.Reads as reads
-use Rattle.edges.proofs.judge_links.Lts as lts
-use Rattle.edges.proofs.judge_row.Reads as judge-row-reads
 
 abbrev Inv-loop : tie.InvT-loop
 Inv-loop table edges n cpairs kc ppairs kp i₀ at₀ i at =
@@ -19,12 +18,10 @@ Inv-loop table edges n cpairs kc ppairs kp i₀ at₀ i at =
 abbrev μ-loop : tie.MeasureT-loop
 μ-loop table edges n cpairs kc ppairs kp i₀ at₀ i at = n - i
 
--- src/lib.rt:179:5
 loop-holds : tie.Need-loop-holds Inv-loop μ-loop
 loop-holds c =
     (search needs, refl, links-start _ _ _ _ _)
 
--- src/lib.rt:180:13
 judge-row-requires : tie.Need-judge-row-requires Inv-loop μ-loop
 judge-row-requires c κs =
     let s = c .before .before .before .before .before .before in let a = s .args in let l = c .before .loop in let below : l .i < a .n = omega arith in
@@ -35,71 +32,56 @@ judge-row-requires c κs =
 enum-told : tie.Need-enum-told Inv-loop μ-loop
 enum-told c = search needs
 
--- src/lib.rt:182:13
 enum-told-2 : tie.Need-enum-told-2 Inv-loop μ-loop
 enum-told-2 c = search needs
 
--- src/lib.rt:182:13
 returns : tie.Need-returns Inv-loop μ-loop
 returns c =
     let s = c .before .before .before .before .before .before .before .before .before in let a = s .args in let l = c .before .before .before .before .loop in let below : l .i < a .n = omega arith in
     links-refused (a .table .now) (a .edges .now) (a .cpairs .now) (a .ppairs .now) (a .n) (l .i) (l .at) (l .inv .2) below _ (c .before .before .judge-row .ensures) _ (c .enum-told2 .given .1)
     ∙ links-told (a .table .now) (a .edges .now) (a .n) (s .pre .0) (a .cpairs .now) (a .ppairs .now) (a .kc) (a .kp) (s .pre .1 .0) (s .pre .1 .1)
 
--- src/lib.rt:184:17
 mul-w : tie.Need-mul-w Inv-loop μ-loop
 mul-w c = search needs
 
--- src/lib.rt:185:25
 add-at : tie.Need-add-at Inv-loop μ-loop
 add-at c = search needs
 
--- src/lib.rt:185:19
 mul-at : tie.Need-mul-at Inv-loop μ-loop
 mul-at c = search needs
 
--- src/lib.rt:185:19
 shared-slice-read-at : tie.Need-shared-slice-read-at Inv-loop μ-loop
 shared-slice-read-at c = search needs
 
--- src/lib.rt:185:14
 add-at-2 : tie.Need-add-at-2 Inv-loop μ-loop
 add-at-2 c =
     let s = c .before .before .before .before .before .before .before .before .before .before in let a = s .args in let l = c .before .before .before .before .before .loop in let below : l .i < a .n = omega arith in parents-fit (a .table .now) (a .edges .now) (a .n) (s .pre .0) (l .i) (l .at) (l .inv .1) below (omega arith)
 
--- src/lib.rt:185:49
 add-at-3 : tie.Need-add-at-3 Inv-loop μ-loop
 add-at-3 c =
     search needs
 
--- src/lib.rt:185:43
 mul-at-2 : tie.Need-mul-at-2 Inv-loop μ-loop
 mul-at-2 c = search needs
 
--- src/lib.rt:185:43
 shared-slice-read-at-2 : tie.Need-shared-slice-read-at-2 Inv-loop μ-loop
 shared-slice-read-at-2 c = search needs
 
--- src/lib.rt:185:14
 add-at-4 : tie.Need-add-at-4 Inv-loop μ-loop
 add-at-4 c =
     let s = c .before .before .before .before .before .before .before .before .before .before .before in let a = s .args in let l = c .before .before .before .before .before .before .loop in let below : l .i < a .n = omega arith in row-fits (a .table .now) (a .edges .now) (a .n) (s .pre .0) (l .i) (l .at) (l .inv .1) below (omega arith)
 
--- src/lib.rt:186:9
 add-i : tie.Need-add-i Inv-loop μ-loop
 add-i c = search needs
 
--- src/lib.rt:179:5
 loop-less : tie.Need-loop-less Inv-loop μ-loop
 loop-less c = search needs
 
--- src/lib.rt:179:5
 loop-again : tie.Need-loop-again Inv-loop μ-loop
 loop-again c =
     let s = c .before .before .before .before .before .before .before .before .before .before .before in let a = s .args in let l = c .before .before .before .before .before .before .loop in let below : l .i < a .n = omega arith in
     (omega arith, next-start (a .table .now) (a .edges .now) (a .n) (s .pre .0) (l .i) (l .at) (l .inv .1) below, links-next (a .table .now) (a .edges .now) (a .cpairs .now) (a .ppairs .now) (a .n) (l .i) (l .at) (l .inv .2) below _ (c .before .before .before .before .judge-row .ensures) (c .before .before .enum-told .given .1))
 
--- src/lib.rt:171:1
 returns-2 : tie.Need-returns-2 Inv-loop μ-loop
 returns-2 c =
     let s = c .before .before .before .before .before .before in let a = s .args in let l = c .before .loop in

@@ -1,3 +1,5 @@
+-- `edges::judge_list` meets its contract: each need is arithmetic, a law that is imported, or what a callee promised.
+-- Assumes nothing.
 use Prim.Native.Nat.{_-_}
 use mathlib.Core.Path.{_≡_}
 use lib.ListN.{length, drop}
@@ -6,9 +8,6 @@ use Rattle.edges.proofs.Told.{each-end, each-refused, each-next}
 use borrow.Author.Needs.{needs}
 use Rattle.edges.proofs.judge_list.Statement.{statement}
 use Rattle.edges.proofs.judge_list.Tie as tie
-use Rattle.edges.proofs.judge_list.Reads as reads
-use Rattle.edges.proofs.judge_list.Lts as lts
-use Rattle.edges.proofs.judge_edge.Reads as judge-edge-reads
 
 abbrev Inv-loop : tie.InvT-loop
 Inv-loop parents table n pairs k i list j₀ j =
@@ -17,46 +16,36 @@ Inv-loop parents table n pairs k i list j₀ j =
 abbrev μ-loop : tie.MeasureT-loop
 μ-loop parents table n pairs k i list j₀ j = length list - j
 
--- src/lib.rt:120:5
 loop-holds : tie.Need-loop-holds Inv-loop μ-loop
 loop-holds c = search needs
 
--- src/lib.rt:121:58
 mul-judge-edge : tie.Need-mul-judge-edge Inv-loop μ-loop
 mul-judge-edge c = search needs
 
--- src/lib.rt:121:58
 shared-slice-read-judge-edge : tie.Need-shared-slice-read-judge-edge Inv-loop μ-loop
 shared-slice-read-judge-edge c = search needs
 
--- src/lib.rt:121:13
 judge-edge-requires : tie.Need-judge-edge-requires Inv-loop μ-loop
 judge-edge-requires c κs = search needs
 
 enum-told : tie.Need-enum-told Inv-loop μ-loop
 enum-told c = search needs
 
--- src/lib.rt:123:13
 enum-told-2 : tie.Need-enum-told-2 Inv-loop μ-loop
 enum-told-2 c = search needs
 
--- src/lib.rt:123:13
 returns : tie.Need-returns Inv-loop μ-loop
 returns c = search each-refused
 
--- src/lib.rt:125:9
 add-j : tie.Need-add-j Inv-loop μ-loop
 add-j c = search needs
 
--- src/lib.rt:120:5
 loop-less : tie.Need-loop-less Inv-loop μ-loop
 loop-less c = search needs
 
--- src/lib.rt:120:5
 loop-again : tie.Need-loop-again Inv-loop μ-loop
 loop-again c = search each-next
 
--- src/lib.rt:111:1
 returns-2 : tie.Need-returns-2 Inv-loop μ-loop
 returns-2 c = search each-end
 

@@ -1,61 +1,48 @@
+-- `layout::finish` meets its contract: each need is arithmetic, a law that is imported, or what a callee promised.
+-- Assumes nothing.
 use mathlib.Core.Path.{_≡_, refl, sym}
 use Rattle.layout.proofs.Copied.{refused-keeps, accepted-takes}
 use borrow.Author.Needs.{needs}
 use Rattle.layout.proofs.finish.Statement.{statement}
 use Rattle.layout.proofs.finish.Tie as tie
-use Rattle.layout.proofs.finish.Reads as reads
-use Rattle.layout.proofs.finish.Lts as lts
-use Rattle.layout.proofs.store.Reads as store-reads
-use Rattle.words.proofs.clear.Reads as clear-reads
 
 enum-told : tie.Need-enum-told
 enum-told c = search needs
 
--- src/lib.rt:61:22
 enum-told-2 : tie.Need-enum-told-2
 enum-told-2 c = search needs
 
--- src/lib.rt:61:9
 clear-requires : tie.Need-clear-requires
 clear-requires c κs = search needs
 
--- src/lib.rt:62:9
 same-length : tie.Need-same-length
 same-length c = search needs
 
--- src/lib.rt:62:9
 returns : tie.Need-returns
 returns c =
     let told = c .before .before .before .before .enum-told2 .given .1 in
     (refl, (c .before .before .clear .ensures, (refused-keeps _ _ _ _ told, (refused-keeps _ _ _ _ told, refused-keeps _ _ _ _ told))))
 
--- src/lib.rt:64:5
 store-requires : tie.Need-store-requires
 store-requires c κs =
     let p = c .before .before .before .before .before .before .before .before .before .before .pre in
     (p .0 (c .before .before .before .before .enum-told .given .1), (p .1 .0, (p .1 .1 .0, p .1 .1 .1)))
 
--- src/lib.rt:65:5
 clear-requires-2 : tie.Need-clear-requires-2
 clear-requires-2 c κs = search needs
 
--- src/lib.rt:49:1
 same-length-2 : tie.Need-same-length-2
 same-length-2 c = search needs
 
--- src/lib.rt:49:1
 same-length-3 : tie.Need-same-length-3
 same-length-3 c = search needs
 
--- src/lib.rt:49:1
 same-length-4 : tie.Need-same-length-4
 same-length-4 c = search needs
 
--- src/lib.rt:49:1
 same-length-5 : tie.Need-same-length-5
 same-length-5 c = search needs
 
--- src/lib.rt:49:1
 returns-2 : tie.Need-returns-2
 returns-2 c =
     let told = c .before .before .before .before .before .before .before .before .before .before .before .before .before .before .before .enum-told .given .1 in

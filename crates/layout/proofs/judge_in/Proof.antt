@@ -1,3 +1,5 @@
+-- `layout::judge_in` meets its contract: each need is arithmetic, a law that is imported, or what a callee promised.
+-- Assumes nothing.
 use native.Mathlib.Omega.{arith}
 use mathlib.Core.Path.{_≡_, sym, _∙_}
 use Rattle.rules.specs.Tables.{segments, placements}
@@ -6,28 +8,19 @@ use Rattle.layout.proofs.Chained.{given, refused-early, refused-empty, 
 use borrow.Author.Needs.{needs}
 use Rattle.layout.proofs.judge_in.Statement.{statement}
 use Rattle.layout.proofs.judge_in.Tie as tie
-use Rattle.layout.proofs.judge_in.Reads as reads
-use Rattle.layout.proofs.judge_in.Lts as lts
-use Rattle.answers.proofs.refuse.Reads as refuse-reads
-use Rattle.incoming.proofs.judge_incoming.Reads as judge-incoming-reads
-use Rattle.layout.proofs.judge_laid.Reads as judge-laid-reads
 
--- src/lib.rt:63:9
 judge-incoming-requires : tie.Need-judge-incoming-requires
 judge-incoming-requires c κs = search needs
 
 enum-told : tie.Need-enum-told
 enum-told c = search needs
 
--- src/lib.rt:65:9
 enum-told-2 : tie.Need-enum-told-2
 enum-told-2 c = search needs
 
--- src/lib.rt:65:9
 same-length : tie.Need-same-length
 same-length c = search needs
 
--- src/lib.rt:65:9
 returns : tie.Need-returns
 returns c =
     let a = c .before .before .before .before .before .before .before .before .before .before .args in
@@ -35,22 +28,18 @@ returns c =
     let told = c .enum-told2 .given .1 in
     (refused-early (a .epoch) (a .size) (a .limits) (segments (a .rows .now) (a .edges .now) (a .n)) (placements (a .places .now) (a .m)) _ (i .ensures .0) _ told, (λ ok. not-accepted _ _ told ok, i .ensures .1 .1))
 
--- src/lib.rt:68:9
 refuse-requires : tie.Need-refuse-requires
 refuse-requires c κs = search needs
 
--- src/lib.rt:68:9
 same-length-2 : tie.Need-same-length-2
 same-length-2 c = search needs
 
--- src/lib.rt:68:9
 returns-2 : tie.Need-returns-2
 returns-2 c =
     let a = c .before .before .before .before .before .before .before .before .before .before .before .before .args in
     let i = c .before .before .before .before .before .before .judge-incoming in
     (refused-empty (a .epoch) (a .size) (a .limits) (segments (a .rows .now) (a .edges .now) (a .n)) (placements (a .places .now) (a .m)) _ (i .ensures .0) _ (c .before .before .enum-told .given .1) (no-segments (a .rows .now) (a .edges .now) (a .n) (c .before .if1 .taken)) (c .refuse .ensures), (λ ok. not-accepted _ _ (c .refuse .ensures) ok, i .ensures .1 .1))
 
--- src/lib.rt:70:5
 judge-laid-requires : tie.Need-judge-laid-requires
 judge-laid-requires c κs =
     let s = c .before .before .before .before .before .before .before .before .before .before .before .before in
@@ -60,11 +49,9 @@ judge-laid-requires c κs =
     let n = c .before .if1 .left in
     (s .pre .counts, (incoming-once (a .epoch) (a .size) (a .limits) (a .rows .now) (a .edges .now) (a .n) (placements (a .places .now) (a .m)) (sym (i .ensures .0) ∙ told), (i .ensures .1 .0 told, (omega (arith, n), omega (arith, s .pre .room, i .ensures .1 .1)))))
 
--- src/lib.rt:46:1
 same-length-3 : tie.Need-same-length-3
 same-length-3 c = search needs
 
--- src/lib.rt:46:1
 returns-3 : tie.Need-returns-3
 returns-3 c =
     let a = c .before .before .before .before .before .before .before .before .before .before .before .before .before .before .before .args in

@@ -1,36 +1,28 @@
+-- `layout::lay_out` meets its contract: each need is arithmetic, a law that is imported, or what a callee promised.
+-- Assumes nothing.
 use Rattle.layout.proofs.Copied.{imaged}
 use borrow.Author.Needs.{needs}
 use Rattle.layout.proofs.lay_out.Statement.{statement}
 use Rattle.layout.proofs.lay_out.Tie as tie
-use Rattle.layout.proofs.lay_out.Reads as reads
-use Rattle.layout.proofs.lay_out.Lts as lts
-use Rattle.image.proofs.write_image.Reads as write-image-reads
 
--- src/lib.rt:28:13
 mul-a : tie.Need-mul-a
 mul-a c = search needs
 
--- src/lib.rt:28:13
 add-a : tie.Need-add-a
 add-a c = search needs
 
--- src/lib.rt:29:61
 mul-write-image : tie.Need-mul-write-image
 mul-write-image c = search needs
 
--- src/lib.rt:29:57
 add-write-image : tie.Need-add-write-image
 add-write-image c = search needs
 
--- src/lib.rt:29:5
 write-image-requires : tie.Need-write-image-requires
 write-image-requires c κs = search needs
 
--- src/lib.rt:21:1
 same-length : tie.Need-same-length
 same-length c = search needs
 
--- src/lib.rt:21:1
 returns : tie.Need-returns
 returns c =
     let s = c .before .before .before .before .before .before .before .before in

@@ -1,70 +1,53 @@
+-- `layout::store` meets its contract: each need is arithmetic, a law that is imported, or what a callee promised.
+-- Assumes nothing.
 use Rattle.image.proofs.Laid.{copied-behind}
 use Rattle.layout.specs.Laid.{orderAt}
 use borrow.Author.Needs.{needs}
 use Rattle.layout.proofs.store.Statement.{statement}
 use Rattle.layout.proofs.store.Tie as tie
-use Rattle.layout.proofs.store.Reads as reads
-use Rattle.layout.proofs.store.Lts as lts
-use Rattle.image.proofs.store_image.Reads as store-image-reads
-use Rattle.words.proofs.copy_into.Reads as copy-into-reads
 
--- src/lib.rt:42:5
 store-image-requires : tie.Need-store-image-requires
 store-image-requires c κs = search needs
 
--- src/lib.rt:43:16
 mul-from : tie.Need-mul-from
 mul-from c = search needs
 
--- src/lib.rt:43:16
 add-from : tie.Need-add-from
 add-from c = search needs
 
--- src/lib.rt:43:38
 mul-from-2 : tie.Need-mul-from-2
 mul-from-2 c = search needs
 
--- src/lib.rt:43:16
 add-from-2 : tie.Need-add-from-2
 add-from-2 c = search needs
 
--- src/lib.rt:44:14
 add-to : tie.Need-add-to
 add-to c = search needs
 
--- src/lib.rt:45:32
 mul-copy-into : tie.Need-mul-copy-into
 mul-copy-into c = search needs
 
--- src/lib.rt:45:32
 sub-copy-into : tie.Need-sub-copy-into
 sub-copy-into c = search needs
 
--- src/lib.rt:45:32
 part-copy-into-start : tie.Need-part-copy-into-start
 part-copy-into-start c = search needs
 
--- src/lib.rt:45:32
 part-copy-into-end : tie.Need-part-copy-into-end
 part-copy-into-end c = search needs
 
--- src/lib.rt:45:5
 copy-into-requires : tie.Need-copy-into-requires
 copy-into-requires c κs = search needs
 
--- src/lib.rt:33:1
 same-length : tie.Need-same-length
 same-length c = search needs
 
--- src/lib.rt:33:1
 same-length-2 : tie.Need-same-length-2
 same-length-2 c = search needs
 
--- src/lib.rt:33:1
 same-length-3 : tie.Need-same-length-3
 same-length-3 c = search needs
 
--- src/lib.rt:33:1
 returns : tie.Need-returns
 returns c =
     let s = c .before .before .before .before .before .before .before .before .before .before .before .before .before .before .before .before in

@@ -1,3 +1,5 @@
+-- `words::ascends` meets its contract: each need is arithmetic, a law that is imported, or what a callee promised.
+-- Assumes nothing.
 use borrow.Author.Needs.{needs}
 use native.Mathlib.Omega.{arith}
 use mathlib.Core.Path.{_≡_, refl, sym, ap, subst, _∙_}
@@ -11,8 +13,6 @@ use Rattle.words.proofs.TableLaws.{length-ids, ids-at, asc-true, asc-fa
 use lib.ListN.{length, getD, take, drop, set, replicate, length-set}
 use Rattle.words.proofs.ascends.Statement.{statement}
 use Rattle.words.proofs.ascends.Tie as tie
-use Rattle.words.proofs.ascends.Reads as reads
-use Rattle.words.proofs.ascends.Lts as lts
 
 module _ (t : List ℕ) (w n i : ℕ) (h : 1 ≤ i) (k : i < n) where
   last : suc (i - 1) ≡ i
@@ -43,61 +43,48 @@ before c = word-in (c .before .loop .i - 1) (c .before .before .args .count) _ _
 here : (c : tie.In-loop Inv-loop μ-loop) → c .before .loop .i * c .before .before .args .width < length (c .before .before .args .rows .now)
 here c = word-in (c .before .loop .i) (c .before .before .args .count) _ _ (omega arith) (omega arith) (c .before .before .pre .1)
 
--- src/lib.rt:76:5
 loop-holds : tie.Need-loop-holds Inv-loop μ-loop
 loop-holds c = (omega arith, λ p q. absurd (omega arith))
 
--- src/lib.rt:77:23
 sub-x : tie.Need-sub-x Inv-loop μ-loop
 sub-x c = search needs
 
--- src/lib.rt:77:22
 mul-x : tie.Need-mul-x Inv-loop μ-loop
 mul-x c = omega (arith, before c)
 
--- src/lib.rt:77:17
 mul-x-2 : tie.Need-mul-x-2 Inv-loop μ-loop
 mul-x-2 c = omega (arith, before c)
 
--- src/lib.rt:77:17
 shared-slice-read-x : tie.Need-shared-slice-read-x Inv-loop μ-loop
 shared-slice-read-x c = before (c .before)
 
--- src/lib.rt:78:22
 mul-y : tie.Need-mul-y Inv-loop μ-loop
 mul-y c = omega (arith, here (c .before))
 
--- src/lib.rt:78:17
 mul-y-2 : tie.Need-mul-y-2 Inv-loop μ-loop
 mul-y-2 c = omega (arith, here (c .before))
 
--- src/lib.rt:78:17
 shared-slice-read-y : tie.Need-shared-slice-read-y Inv-loop μ-loop
 shared-slice-read-y c = here (c .before .before)
 
--- src/lib.rt:80:13
 returns : tie.Need-returns Inv-loop μ-loop
 returns c =
     let l = c .before .before .before .before in
     let a = l .before .args in
     fails (a .rows .now) (a .width) (a .count) (l .loop .i) (l .loop .inv .0) (omega arith) (c .if1 .taken)
 
--- src/lib.rt:82:9
 add-i : tie.Need-add-i Inv-loop μ-loop
 add-i c = search needs
 
--- src/lib.rt:76:5
 loop-less : tie.Need-loop-less Inv-loop μ-loop
 loop-less c = search needs
 
--- src/lib.rt:76:5
 loop-again : tie.Need-loop-again Inv-loop μ-loop
 loop-again c =
     let l = c .before .before .before .before in
     let a = l .before .args in
     (omega arith, more (a .rows .now) (a .width) (a .count) (l .loop .i) (l .loop .inv .0) (omega arith) (c .if1 .left) (l .loop .inv .1))
 
--- src/lib.rt:70:1
 returns-2 : tie.Need-returns-2 Inv-loop μ-loop
 returns-2 c =
     let a = c .before .before .args in

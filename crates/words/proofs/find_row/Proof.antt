@@ -1,3 +1,5 @@
+-- `words::find_row` meets its contract: each need is arithmetic, a law that is imported, or what a callee promised.
+-- Assumes nothing.
 use borrow.Author.Needs.{needs}
 use native.Mathlib.Omega.{arith}
 use mathlib.Core.Path.{_≡_, refl, sym, ap, subst, _∙_}
@@ -14,8 +16,6 @@ use Rattle.words.proofs.TableLaws.{length-ids, ids-at, is-at, is-nothin
 use lib.ListN.{length, getD, take, drop, set, replicate, length-set}
 use Rattle.words.proofs.find_row.Statement.{statement}
 use Rattle.words.proofs.find_row.Tie as tie
-use Rattle.words.proofs.find_row.Reads as reads
-use Rattle.words.proofs.find_row.Lts as lts
 
 -- those before lo are below x, those from hi on above it
 record Bracket (l : List ℕ) (x n lo hi : ℕ) : Type 0 where
@@ -66,57 +66,45 @@ M c = c .before .loop .lo + (c .before .loop .hi - c .before .loop .lo) / 2
 here : (c : tie.In-loop Inv-loop μ-loop) → M c * c .before .before .args .width < length (c .before .before .args .rows .now)
 here c = word-in (M c) (c .before .before .args .count) _ _ (omega arith) (omega arith) (c .before .before .pre .1 .0)
 
--- src/lib.rt:46:5
 loop-holds : tie.Need-loop-holds Inv-loop μ-loop
 loop-holds c = search needs
 
--- src/lib.rt:47:25
 sub-mid : tie.Need-sub-mid Inv-loop μ-loop
 sub-mid c = search needs
 
--- src/lib.rt:47:19
 add-mid : tie.Need-add-mid Inv-loop μ-loop
 add-mid c = search needs
 
--- src/lib.rt:48:22
 mul-x : tie.Need-mul-x Inv-loop μ-loop
 mul-x c = omega (arith, here c)
 
--- src/lib.rt:48:17
 mul-x-2 : tie.Need-mul-x-2 Inv-loop μ-loop
 mul-x-2 c = omega (arith, here c)
 
--- src/lib.rt:48:17
 shared-slice-read-x : tie.Need-shared-slice-read-x Inv-loop μ-loop
 shared-slice-read-x c = here (c .before)
 
--- src/lib.rt:50:13
 returns : tie.Need-returns Inv-loop μ-loop
 returns c =
     let i = c .before .before in
     let s = i .before .before in
     hit (s .args .rows .now) (s .args .width) (s .args .count) (s .args .id) _ _ (s .pre .1 .1) (i .before .loop .inv) (M i) (omega arith) (c .if1 .taken)
 
--- src/lib.rt:53:18
 add-lo : tie.Need-add-lo Inv-loop μ-loop
 add-lo c = search needs
 
--- src/lib.rt:46:5
 loop-less : tie.Need-loop-less Inv-loop μ-loop
 loop-less c = search needs
 
--- src/lib.rt:46:5
 loop-again : tie.Need-loop-again Inv-loop μ-loop
 loop-again c =
     let i = c .before .before .before in
     let s = i .before .before in
     up (s .args .rows .now) (s .args .width) (s .args .count) (s .args .id) _ _ (s .pre .1 .1) (i .before .loop .inv) (M i) (omega arith) (c .if2 .taken)
 
--- src/lib.rt:46:5
 loop-less-2 : tie.Need-loop-less-2 Inv-loop μ-loop
 loop-less-2 c = search needs
 
--- src/lib.rt:46:5
 loop-again-2 : tie.Need-loop-again-2 Inv-loop μ-loop
 loop-again-2 c =
     let i = c .before .before .before in
@@ -124,7 +112,6 @@ loop-again-2 c =
     down (s .args .rows .now) (s .args .width) (s .args .count) (s .args .id) _ _ (s .pre .1 .1) (i .before .loop .inv) (M i) (omega arith)
     (lt-of-le-of-ne (c .if2 .left) (λ e. c .before .if1 .left (sym e)))
 
--- src/lib.rt:38:1
 returns-2 : tie.Need-returns-2 Inv-loop μ-loop
 returns-2 c =
     let s = c .before .before in

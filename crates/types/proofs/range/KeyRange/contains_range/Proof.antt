@@ -1,15 +1,13 @@
+-- `types::range::KeyRange::contains_range` meets its contract: each need is arithmetic, a law that is imported, or what a callee promised.
+-- Assumes nothing.
 use borrow.Author.Needs.{needs}
 use Rattle.answers.proofs.Judging.{judging}
 use Rattle.types.proofs.range.KeyRange.contains_range.Statement.{statement}
 use Rattle.types.proofs.range.KeyRange.contains_range.Tie as tie
-use Rattle.types.proofs.range.KeyRange.contains_range.Reads as reads
-use Rattle.types.proofs.range.KeyRange.contains_range.Lts as lts
 
--- src/lib.rt:74:5
 returns : tie.Need-returns
 returns c = search judging
 
--- src/lib.rt:74:5
 returns-2 : tie.Need-returns-2
 returns-2 c = search judging
 
