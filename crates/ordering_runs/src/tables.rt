@@ -1,0 +1,118 @@
+// The layouts of the runs, judged into held areas.
+
+// Segment 1, split at epoch 3 into 2 and 3: document 01's worked example.
+pub fn judge_split(held: &mut [u64], links: &mut [u64]) {
+    let rows = [
+        1,
+        0,
+        65535,
+        2,
+        0,
+        1,
+        3,
+        0,
+        0,
+        0,
+        2,
+        2,
+        0,
+        32767,
+        1,
+        3,
+        0,
+        0,
+        0,
+        0,
+        1,
+        0,
+        3,
+        32768,
+        65535,
+        1,
+        3,
+        0,
+        0,
+        0,
+        0,
+        1,
+        0u64,
+    ];
+    let edges = [2, 3, 1, 1u64];
+    judge(3, &rows, &edges, held, links);
+}
+
+// Segment 1, split at epoch 1 into 2 and 3, which are merged at epoch 2 into 4.
+pub fn judge_merge(held: &mut [u64], links: &mut [u64]) {
+    let rows = [
+        1,
+        0,
+        65535,
+        2,
+        0,
+        1,
+        1,
+        0,
+        0,
+        0,
+        2,
+        2,
+        0,
+        32767,
+        2,
+        1,
+        1,
+        2,
+        0,
+        0,
+        1,
+        1,
+        3,
+        32768,
+        65535,
+        2,
+        1,
+        1,
+        2,
+        0,
+        0,
+        1,
+        1,
+        4,
+        0,
+        65535,
+        1,
+        2,
+        0,
+        0,
+        0,
+        0,
+        2,
+        0u64,
+    ];
+    let edges = [2, 3, 1, 4, 1, 4, 2, 3u64];
+    judge(2, &rows, &edges, held, links);
+}
+
+// Segment 1 alone, created at epoch 1: what it came from is gone.
+pub fn judge_pruned(held: &mut [u64], links: &mut [u64]) {
+    let rows = [1, 0, 65535, 1, 1, 0, 0, 0, 0, 0, 0u64];
+    let none = [0u64; 1];
+    judge(1, &rows, &none[..0], held, links);
+}
+
+fn judge(epoch: u64, rows: &[u64], edges: &[u64], held: &mut [u64], links: &mut [u64]) {
+    let mut work = [0u64; 512];
+    let mut order = [0u64; 4];
+    let judged = layout::judge_layout(
+        epoch,
+        100,
+        rows,
+        edges,
+        &edges[..0],
+        &mut work,
+        held,
+        links,
+        &mut order,
+    );
+    crate::print::judged(b"layout of epoch", epoch, judged);
+}
