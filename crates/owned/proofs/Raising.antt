@@ -13,15 +13,16 @@ use mathlib.Core.List.{List, [], _∷_, _++_}
 use borrow.Author.Tests.{eq-eqb, ne-eqb}
 use lib.Dec.{eqb}
 use lib.ListN.{length, getD, set, take, replicate, getD-replicate}
-use lib.Seq.{take-suc, take-all, take-set-le, getD-take, getD-set-same, getD-set-other}
+use lib.Seq.{take-suc, take-all, take-set-le, getD-set-same, getD-set-other}
 use Rattle.lists.specs.Lists.{has}
 use Rattle.lists.proofs.SetLaws.{has-append}
 use Rattle.words.specs.Part.{part, put}
 use Rattle.words.specs.Table.{ids, whereIs, Ascends}
 use Rattle.words.specs.declared.Found.{Found}
 use Rattle.words.specs.declared.Found.the-variants.{At, Nothing}
-use Rattle.words.proofs.PartLaws.{part-length, part-at, part-as, part-in, Loan, loan}
+use Rattle.words.proofs.PartLaws.{part-length, part-at, part-as, Loan, loan}
 use Rattle.words.proofs.TableLaws.{at-is, nothing-is}
+use Rattle.tabled.proofs.Kept.{word-kept, part-kept}
 use Rattle.owned.specs.Marks.{Marked, raise, Raised, statusOf}
 
 -- ---- one mark
@@ -44,10 +45,6 @@ raise-more l x from to a m n = rw (has-append a l (x ∷ [])) (go (has a l) (eqb
 pub raised-start : (list : List ℕ) (from to b s k : ℕ) (w : List ℕ) → Raised (take 0 list) from to b s k w w
 raised-start list from to b s k w = record { front = refl; each = λ p h. refl }
 
--- a word before the marks stayed
-kept : (s b p : ℕ) (w w′ : List ℕ) → take s w′ ≡ take s w → b + p < s → getD w′ (b + p) 0 ≡ getD w (b + p) 0
-kept s b p w w′ e h = sym (getD-take s w′ (b + p) 0 h) ∙ ap (λ (l : List ℕ). getD l (b + p) 0) e ∙ getD-take s w (b + p) 0 h
-
 pub raised-next : (list : List ℕ) (j from to b s k : ℕ) (w₀ w w′ : List ℕ) → (from ≡ to → ⊥) → b + k ≤ s → j < length list → Raised (take j list) from to b s k w₀ w
     → Raised (getD list j 0 ∷ []) from to b s k w w′ → Raised (take (j + 1) list) from to b s k w₀ w′
 raised-next list j from to b s k w₀ w w′ n apart h r o =
@@ -55,7 +52,7 @@ raised-next list j from to b s k w₀ w w′ n apart h r o =
       front = o .front ∙ r .front;
       each = λ p q.
           o .each p q
-          ∙ ap (λ (a : ℕ). raise (getD list j 0 ∷ []) from to a (getD w (s + p) 0)) (kept s b p w₀ w (r .front) (omega arith))
+          ∙ ap (λ (a : ℕ). raise (getD list j 0 ∷ []) from to a (getD w (s + p) 0)) (word-kept w w₀ s (r .front) (b + p) (omega arith))
           ∙ ap (λ (m : ℕ). raise (getD list j 0 ∷ []) from to (getD w₀ (b + p) 0) m) (r .each p q)
           ∙ sym (raise-more (take j list) (getD list j 0) from to (getD w₀ (b + p) 0) (getD w₀ (s + p) 0) n)
           ∙ ap (λ (l : List ℕ). raise l from to (getD w₀ (b + p) 0) (getD w₀ (s + p) 0)) (sym more);
@@ -75,14 +72,6 @@ ids-one [] zero e = refl
 ids-one [] (suc k) e = absurd (omega arith)
 ids-one (x ∷ l) zero e = absurd (omega arith)
 ids-one (x ∷ l) (suc k) e = ap (λ (t : List ℕ). x ∷ t) (ids-one l k (omega arith))
-
--- a part before the marks stayed
-pub part-kept : (b k s : ℕ) (w w′ : List ℕ) → b + k ≤ s → take s w′ ≡ take s w → part w′ b k ≡ part w b k
-part-kept b k s w w′ h e =
-    let z : 0 + b ≡ b = omega arith in
-    let p : part (take s w′) b k ≡ part w′ b k = rw z at (part-in w′ 0 s b k h) in
-    let q : part (take s w) b k ≡ part w b k = rw z at (part-in w 0 s b k h) in
-    sym p ∙ ap (λ (l : List ℕ). part l b k) e ∙ q
 
 module _ (b s k : ℕ) (w : List ℕ) (apart : b + k ≤ s) (room : s + k ≤ length w) (up : Ascends (part w b k)) where
   cut : part w b (b + k - b) ≡ part w b k
@@ -156,7 +145,7 @@ cleared b s k w ys h l e =
 
 -- what the next pass asks, once the marks were changed and nothing before them
 pub again-asks : (b s k : ℕ) (w w′ : List ℕ) → b + k ≤ s → s + k ≤ length w → Ascends (part w b k) → take s w′ ≡ take s w → length w′ ≡ length w → (b + k ≤ s) × (s + k ≤ length w′) × Ascends (part w′ b k)
-again-asks b s k w w′ h l u e z = (h, omega arith, rw (part-kept b k s w w′ h e) u)
+again-asks b s k w w′ h l u e z = (h, omega arith, rw (part-kept w′ w s e b k h) u)
 
 pub cleared-length : (s k : ℕ) (w ys : List ℕ) → s + k ≤ length w → length ys ≡ length (part w s (s + k - s)) → length (put w s (s + k - s) ys) ≡ length w
 cleared-length s k w ys h l = loan w s (s + k) k ys refl h l .len
@@ -175,7 +164,7 @@ owned-marks history completed b s k w w₁ w₂ w₃ apart m r q =
     at-p : (p : ℕ) → p < k → getD w₃ (s + p) 0 ≡ statusOf history completed (getD w (b + p) 0)
     at-p p h =
         let x : ℕ = getD w (b + p) 0 in
-        let e₁ : getD w₁ (b + p) 0 ≡ x = kept s b p w w₁ (m .front) (omega arith) in
-        let e₂ : getD w₂ (b + p) 0 ≡ x = kept s b p w₁ w₂ (r .front) (omega arith) ∙ e₁ in
+        let e₁ : getD w₁ (b + p) 0 ≡ x = word-kept w₁ w s (m .front) (b + p) (omega arith) in
+        let e₂ : getD w₂ (b + p) 0 ≡ x = word-kept w₂ w₁ s (r .front) (b + p) (omega arith) ∙ e₁ in
         let v₂ : getD w₂ (s + p) 0 ≡ raise history 0 1 x 0 = r .each p h ∙ rw (e₁, m .each p h) refl in
         q .each p h ∙ rw (e₂, v₂) (status (has x history) (has x completed))

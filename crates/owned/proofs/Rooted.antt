@@ -7,7 +7,7 @@ use mathlib.Core.Bool.{Bool, true, false}
 use mathlib.Core.Logic.{⊎-elim}
 use mathlib.Core.List.{List}
 use lib.ListN.{length, getD, set}
-use lib.Seq.{take-set-le, getD-take, getD-set-same, getD-set-other}
+use lib.Seq.{take-set-le, getD-set-same, getD-set-other}
 use Rattle.lists.specs.Lists.{tick}
 use Rattle.lists.proofs.Cases.{lt-or-le}
 use Rattle.words.specs.Table.{ids, whereIs}
@@ -15,6 +15,7 @@ use Rattle.words.specs.declared.Found.{Found}
 use Rattle.words.specs.declared.Found.the-variants.{At, Nothing}
 use Rattle.words.proofs.TableLaws.{row-found}
 use Rattle.rules.specs.Tables.{heldWidth}
+use Rattle.tabled.proofs.Kept.{word-kept}
 use Rattle.owned.specs.Marks.{Marked, rootRow, rootFound, rootOf}
 
 module _ (rows : List ℕ) (h x : ℕ) (f : Found) (is : f ≡ whereIs (ids rows heldWidth h) x) where
@@ -44,13 +45,10 @@ module _ (f : ℕ → ℕ) (b s : ℕ) (w₀ : List ℕ) where
   marked-next i k w v h apart room m e =
       record { front = take-set-le s w (s + i) v (omega arith) ∙ m .front; each = λ p q. at-p p q }
     where
-      kept : getD w (b + i) 0 ≡ getD w₀ (b + i) 0
-      kept = sym (getD-take s w (b + i) 0 (omega arith)) ∙ ap (λ (l : List ℕ). getD l (b + i) 0) (m .front) ∙ getD-take s w₀ (b + i) 0 (omega arith)
-
       at-p : (p : ℕ) → p < i + 1 → getD (set w (s + i) v) (s + p) 0 ≡ f (getD w₀ (b + p) 0)
       at-p p q =
           ⊎-elim (λ (l : p < i). getD-set-other w (s + i) (s + p) v 0 (λ z. omega arith) ∙ m .each p l)
-          (λ (l : i ≤ p). let z : p ≡ i = omega arith in rw z (getD-set-same w (s + i) v 0 room ∙ e ∙ ap f kept)) (lt-or-le p i)
+          (λ (l : i ≤ p). let z : p ≡ i = omega arith in rw z (getD-set-same w (s + i) v 0 room ∙ e ∙ ap f (word-kept w w₀ s (m .front) (b + i) (omega arith)))) (lt-or-le p i)
 
   pub marked-end : (i k : ℕ) (w : List ℕ) → k ≤ i → Marked f b s i w₀ w → Marked f b s k w₀ w
   marked-end i k w h m = record { front = m .front; each = λ p q. m .each p (omega arith) }

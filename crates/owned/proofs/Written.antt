@@ -10,11 +10,12 @@ use mathlib.Core.Bool.{Bool, true, false, cond}
 use mathlib.Core.List.{List, [], _∷_, _++_}
 use lib.Dec.{eqb}
 use lib.ListN.{length, getD, set, take, drop, length-append, length-set, take-append-drop}
-use lib.Seq.{take-all, take-suc, take-suc-set, getD-take}
+use lib.Seq.{take-all, take-suc, take-suc-set}
 use Rattle.lists.specs.Lists.{front}
 use Rattle.lists.specs.Sets.{keep}
 use Rattle.words.specs.Part.{part}
 use Rattle.words.proofs.PartLaws.{part-length, part-at}
+use Rattle.tabled.proofs.Kept.{word-kept}
 use Rattle.owned.specs.Marks.{Marked, withMark}
 
 pub record Written (p : List ℕ) (len : ℕ) (list list₀ : List ℕ) : Type 0 where
@@ -84,7 +85,7 @@ module _ (f : ℕ → ℕ) (b s k : ℕ) (w w′ : List ℕ) (m : Marked f b s k
   with-from zero h = refl
   with-from (suc i) h =
       let l : List ℕ = part w b k in
-      let e : getD w′ (b + i) 0 ≡ getD w (b + i) 0 = sym (getD-take s w′ (b + i) 0 (omega arith)) ∙ ap (λ (t : List ℕ). getD t (b + i) 0) (m .front) ∙ getD-take s w (b + i) 0 (omega arith) in
+      let e : getD w′ (b + i) 0 ≡ getD w (b + i) 0 = word-kept w′ w s (m .front) (b + i) (omega arith) in
       let g : getD l i 0 ≡ getD w (b + i) 0 = part-at w b k i (omega arith) in
       let n : i < length l = rw (part-length w b k (omega arith)) (omega arith) in
       rw (take-suc l i 0 n, keep-snoc (λ x. eqb (f x) mark) (take i l) (getD l i 0), g, m .each i (omega arith), e, with-from i (omega arith)) refl

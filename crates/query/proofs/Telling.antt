@@ -16,7 +16,7 @@ use Rattle.answers.specs.declared.Eligibility.the-variants as E
 use Rattle.types.specs.declared.records.OrderingMode.{OrderingMode}
 use Rattle.types.specs.declared.records.OrderingMode.the-variants.{Strict, BrokerManaged}
 use Rattle.owned.specs.Marks.{Marked, rootOf, statusOf, withMark}
-use Rattle.owned.proofs.Raising.{part-kept}
+use Rattle.tabled.proofs.Kept.{part-kept}
 use Rattle.owned.proofs.Written.{with-keep}
 use Rattle.query.specs.Told.{Told, openAnswer, rowAnswer, remoteIn, incompleteIn}
 
@@ -120,7 +120,7 @@ pub told-owned : (mode : OrderingMode) (id : ℕ) (history completed : List ℕ)
     → Marked (statusOf history completed) b s k w₁ w₂ → Told (openAnswer mode id (withMark w₂ b s 0 k) (withMark w₂ b s 1 k)) t f f′ l l′
     → Told (openAnswer mode id (remoteIn history completed (part w b k)) (incompleteIn history completed (part w b k))) t f f′ l l′
 told-owned mode id history completed b s k w w₁ w₂ t f f′ l l′ apart room front m h =
-    let p : part w₁ b k ≡ part w b k = part-kept b k s w w₁ apart front in
+    let p : part w₁ b k ≡ part w b k = part-kept w₁ w s front b k apart in
     let r : withMark w₂ b s 0 k ≡ remoteIn history completed (part w b k) = with-keep (statusOf history completed) b s k w₁ w₂ m apart room 0 ∙ ap (remoteIn history completed) p in
     let i : withMark w₂ b s 1 k ≡ incompleteIn history completed (part w b k) = with-keep (statusOf history completed) b s k w₁ w₂ m apart room 1 ∙ ap (incompleteIn history completed) p in
     subst (λ (I : List ℕ). Told (openAnswer mode id (remoteIn history completed (part w b k)) I) t f f′ l l′) i

@@ -10,7 +10,7 @@ use mathlib.Core.List.{List, [], _∷_, _++_}
 use borrow.Author.Tests.{eqb-true, eqb-false}
 use lib.Dec.{eqb}
 use lib.ListN.{length, getD, set, take, drop}
-use lib.Seq.{take-suc, take-all, take-set-le, getD-take, getD-drop}
+use lib.Seq.{take-suc, take-all, take-set-le, getD-drop}
 use Rattle.lists.specs.Lists.{has, _∈_}
 use Rattle.lists.specs.Sets.{Ascending}
 use Rattle.lists.proofs.Cases.{lt-or-le}
@@ -18,6 +18,7 @@ use Rattle.lists.proofs.SetLaws.{never, here, there, has-append, take-place}
 use Rattle.words.specs.Part.{part}
 use Rattle.words.specs.Table.{ids}
 use Rattle.words.proofs.TableLaws.{length-ids, ids-at}
+use Rattle.tabled.proofs.Kept.{word-kept}
 use Rattle.walk.specs.Kept.{Kept, Rises, isNew}
 use Rattle.walk.proofs.Singles.{in-snoc}
 use Rattle.walk.proofs.Steps.{part-more}
@@ -105,7 +106,7 @@ module _ (w₀ : List ℕ) (a m b : ℕ) (apart : a + 3 * m ≤ b) (room : b + m
   module _ (i k : ℕ) (w : List ℕ) (len : length w ≡ length w₀) (front : take b w ≡ take b w₀) (ki : k ≤ i) (h : i < m) (kept : Kept (part w b k) (take i l)) where
     -- the rows stand as they did
     read : (j : ℕ) → j ≤ i → getD w (a + 3 * j) 0 ≡ getD w₀ (a + 3 * j) 0
-    read j q = sym (getD-take b w (a + 3 * j) 0 (omega arith)) ∙ ap (λ (v : List ℕ). getD v (a + 3 * j) 0) front ∙ getD-take b w₀ (a + 3 * j) 0 (omega arith)
+    read j q = word-kept w w₀ b front (a + 3 * j) (omega arith)
 
     word : (j : ℕ) → j ≤ i → getD w (a + 3 * j) 0 ≡ getD l j 0
     word j q = read j q ∙ sym (first-at w₀ a m j (omega arith))

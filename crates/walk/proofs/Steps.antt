@@ -15,7 +15,7 @@ use mathlib.Core.List.{List, [], _∷_, _++_}
 use borrow.Author.Tests.{eqb-true}
 use lib.Dec.{eqb}
 use lib.ListN.{length, getD, set, take, drop, length-append, length-set, length-drop, List·getD-append}
-use lib.Seq.{take-set-le, take-set-lt, drop-set-lt, drop-set-add, take-suc-set, getD-set-same, getD-set-other, getD-take, getD-at, ext-getD}
+use lib.Seq.{take-set-le, take-set-lt, drop-set-lt, drop-set-add, take-suc-set, getD-set-same, getD-set-other, getD-at, ext-getD}
 use Rattle.lists.proofs.Cases.{lt-or-le}
 use Rattle.words.specs.Part.{part}
 use Rattle.words.specs.Table.{ids, whereIs}
@@ -24,6 +24,7 @@ use Rattle.words.specs.declared.Found.the-variants.{At, Nothing}
 use Rattle.words.proofs.PartLaws.{part-length, part-at}
 use Rattle.words.proofs.TableLaws.{length-ids, ids-at, row-found}
 use Rattle.rules.specs.Tables.{heldWidth, startOf}
+use Rattle.tabled.proofs.Kept.{word-kept}
 use Rattle.walk.specs.Met.{met, meetRow, meet, Held, marksIn, listIn, readIn, metIn, StartsIn}
 use Rattle.walk.proofs.Meeting.{room}
 
@@ -160,4 +161,4 @@ pub starts-end : (rows : List ℕ) (i n : ℕ) (w : List ℕ) → n ≤ i → St
 starts-end rows i n w h s j k = s j (omega arith)
 
 pub starts-kept : (rows : List ℕ) (n : ℕ) (w w′ : List ℕ) → take n w′ ≡ take n w → StartsIn rows n w → StartsIn rows n w′
-starts-kept rows n w w′ e s i h = sym (getD-take n w′ i 0 h) ∙ ap (λ (l : List ℕ). getD l i 0) e ∙ getD-take n w i 0 h ∙ s i h
+starts-kept rows n w w′ e s i h = word-kept w′ w n e i h ∙ s i h

@@ -6,8 +6,9 @@ use mathlib.Core.Path.{_≡_, _∙_}
 use lib.ListN.{length, take}
 use Rattle.words.specs.Part.{part}
 use Rattle.words.specs.Table.{Ascends}
+use Rattle.tabled.proofs.Kept.{part-kept}
 use Rattle.owned.specs.Marks.{Raised}
-use Rattle.owned.proofs.Raising.{raised-start, raised-next, raised-end, part-kept}
+use Rattle.owned.proofs.Raising.{raised-start, raised-next, raised-end}
 use borrow.Author.Needs.{needs}
 use Rattle.owned.proofs.marks.raise_all.Statement.{statement}
 use Rattle.owned.proofs.marks.raise_all.Tie as tie
@@ -49,7 +50,7 @@ loop-again c =
     let x = c .before .before .raise-one in (
       search needs,
       x .kept .0 ∙ l .inv .1,
-      rw (part-kept (s .args .b) (s .args .k) (s .args .s) (l .w) _ (s .pre .0 .0) (x .ensures .front)) (l .inv .2),
+      rw (part-kept _ (l .w) (s .args .s) (x .ensures .front) (s .args .b) (s .args .k) (s .pre .0 .0)) (l .inv .2),
       raised-next (s .args .list .now) (l .j) (s .args .from) (s .args .to) (s .args .b) (s .args .s) (s .args .k) (s .args .w .now) (l .w) _ (s .pre .1) (s .pre .0 .0) (c .before .before .before .before .before .loop-test .taken) (l .inv .3) (x .ensures),
     )
 
