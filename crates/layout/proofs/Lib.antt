@@ -1,3 +1,4 @@
 pub mod Copied
 pub mod Whole
 pub mod Chained
+pub mod Unique
