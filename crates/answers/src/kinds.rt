@@ -3,6 +3,7 @@ ghost use mathlib.Core.Path.{_≡_};
 ghost use Rattle.answers.specs.Kinds.{kindOf};
 
 // 0 none, 1 added, 2 layout, 3 session, 4 ordering, 5 assignment.
+#[repr(C)]
 pub struct Kind {
     pub family: u64,
     pub values: u64,

@@ -6,6 +6,7 @@ ghost use Rattle.answers.specs.Answer.{numberOf};
 pub mod kinds;
 
 // A refusal: its number in document 01 and up to four values. Values that a number does not carry are 0.
+#[repr(C)]
 pub struct Refusal {
     pub number: u64,
     pub a: u64,

@@ -77,13 +77,13 @@ module _ (s : Session) (u : Update) (limits : DagLimits) (t : Tables) (work : Li
     (e : updateAfter s u limits t work a c .answer ≡ U.Accepted d) where
   accepted : went s u limits t (length work) a c ≡ judged J.Accepted
   unfolding updateAfter
-  accepted = was-accepted (went s u limits t (length work) a c) (u .epoch) (heldBefore s a) (segmentsIn t) d e
+  accepted = was-accepted (went s u limits t (length work) a c) (u .epoch) (heldBefore (heldCount s) a) (segmentsIn t) d e
 
   passed : (badLayout (t .rows) (t .edges) (t .places) ≡ false) × (layoutRule (u .epoch) (u .size) limits (segmentsIn t) (placementsIn t) ≡ J.Accepted)
   unfolding went replaceRule badTables
   passed =
-      let j : replaceRule s u limits t (length work) a c ≡ J.Accepted = was-judged (addressRule s u) (replaceRule s u limits t (length work) a c) (isStale s u) accepted in
-      let r = past-two (badTables s t a) (shortToUpdate s t (length work) a c) (layoutRule (u .epoch) (u .size) limits (segmentsIn t) (placementsIn t)) j in
+      let j : replaceRule (heldCount s) (heldEdgeCount s) (u .epoch) (u .size) limits t (length work) a c ≡ J.Accepted = was-judged (addressRule s u) (replaceRule (heldCount s) (heldEdgeCount s) (u .epoch) (u .size) limits t (length work) a c) (isStale s u) accepted in
+      let r = past-two (badTables (heldCount s) (heldEdgeCount s) t a) (shortToUpdate (heldCount s) t (length work) a c) (layoutRule (u .epoch) (u .size) limits (segmentsIn t) (placementsIn t)) j in
       (or-left (badLayout (t .rows) (t .edges) (t .places)) (badHeld (a .held) (a .links) (heldCount s) (heldEdgeCount s)) (r .0), r .1)
 
   update-sound : Sound (heldIn (updateAfter s u limits t work a c .areas) (heldCount (updateAfter s u limits t work a c .session)) (heldEdgeCount (updateAfter s u limits t work a c .session)))

@@ -60,21 +60,21 @@ addressRule s u =
 unfoldable pub isStale : Session → Update → Bool
 isStale s u = s .held && leb (u .epoch) (s .epoch)
 
--- 1: the incoming tables, and the held tables in `a`
-unfoldable pub badTables : Session → Tables → Areas → Bool
-badTables s t a = badLayout (t .rows) (t .edges) (t .places) || badHeld (a .held) (a .links) (heldCount s) (heldEdgeCount s)
+-- 1: the incoming tables, and the held tables in `a`: h rows and g edge words of it are held
+unfoldable pub badTables : ℕ → ℕ → Tables → Areas → Bool
+badTables h g t a = badLayout (t .rows) (t .edges) (t .places) || badHeld (a .held) (a .links) h g
 
 -- 2
-unfoldable pub shortToUpdate : Session → Tables → ℕ → Areas → Changes → Bool
-shortToUpdate s t work a c =
-    noRoomToUpdate work (length (a .held)) (length (a .links)) (length (a .order)) (length (c .added)) (length (c .removed)) (length (c .splits)) (length (c .merges)) (length (t .rows) / rowWidth) (length (t .places) / placeWidth) (length (t .edges)) (heldCount s)
+unfoldable pub shortToUpdate : ℕ → Tables → ℕ → Areas → Changes → Bool
+shortToUpdate h t work a c =
+    noRoomToUpdate work (length (a .held)) (length (a .links)) (length (a .order)) (length (c .added)) (length (c .removed)) (length (c .splits)) (length (c .merges)) (length (t .rows) / rowWidth) (length (t .places) / placeWidth) (length (t .edges)) h
 
--- 1, 2, 3 to 35
-unfoldable pub replaceRule : Session → Update → DagLimits → Tables → ℕ → Areas → Changes → Judged
-replaceRule s u limits t work a c =
-    when (badTables s t a) (refuse0 1) then
-    when (shortToUpdate s t work a c) (refuse0 2) then
-    layoutRule (u .epoch) (u .size) limits (segmentsIn t) (placementsIn t)
+-- 1, 2, 3 to 35: the layout of `epoch` and `size`, judged where h rows and g edge words are held
+unfoldable pub replaceRule : ℕ → ℕ → ℕ → ℕ → DagLimits → Tables → ℕ → Areas → Changes → Judged
+replaceRule h g epoch size limits t work a c =
+    when (badTables h g t a) (refuse0 1) then
+    when (shortToUpdate h t work a c) (refuse0 2) then
+    layoutRule epoch size limits (segmentsIn t) (placementsIn t)
 
 -- how an update went
 pub data Went : Type 0 where
@@ -88,11 +88,11 @@ wentAfter J.Accepted true j = stale
 wentAfter J.Accepted false j = judged j
 
 unfoldable pub went : Session → Update → DagLimits → Tables → ℕ → Areas → Changes → Went
-went s u limits t work a c = wentAfter (addressRule s u) (isStale s u) (replaceRule s u limits t work a c)
+went s u limits t work a c = wentAfter (addressRule s u) (isStale s u) (replaceRule (heldCount s) (heldEdgeCount s) (u .epoch) (u .size) limits t work a c)
 
 -- the ids held before, ascending
-abbrev pub heldBefore : Session → Areas → List ℕ
-heldBefore s a = ids (a .held) heldWidth (heldCount s)
+abbrev pub heldBefore : ℕ → Areas → List ℕ
+heldBefore h a = ids (a .held) heldWidth h
 
 -- ---- the answer, the session after it, and every lent word
 
@@ -142,10 +142,10 @@ changed before ss c =
     }
 
 -- the call got past 1 and 2
-unfoldable pub pastUpdateRoom : Session → Tables → ℕ → Areas → Changes → Bool
-pastUpdateRoom s t work a c =
-    not (badTables s t a)
-    && not (shortToUpdate s t work a c)
+unfoldable pub pastUpdateRoom : ℕ → ℕ → Tables → ℕ → Areas → Changes → Bool
+pastUpdateRoom h g t work a c =
+    not (badTables h g t a)
+    && not (shortToUpdate h t work a c)
 
 -- 40, 41, 42 and stale stand before 1 and 2, and leave the work area as it was
 abbrev pub updateWorkAfter : Went → Bool → List ℕ → List ℕ
@@ -164,12 +164,12 @@ pub record After : Type 0 where
 unfoldable pub updateAfter : Session → Update → DagLimits → Tables → List ℕ → Areas → Changes → After
 updateAfter s u limits t work a c =
     let w : Went = went s u limits t (length work) a c in
-    let before : List ℕ = heldBefore s a in
+    let before : List ℕ = heldBefore (heldCount s) a in
     let ss : List Segment = segmentsIn t in
     record {
       answer = updatedOf w (u .epoch) before ss;
       session = sessionAfter w s u t;
       areas = ifAccepted w (filled limits t a) a;
       changes = ifAccepted w (changed before ss c) c;
-      work = updateWorkAfter w (pastUpdateRoom s t (length work) a c) work;
+      work = updateWorkAfter w (pastUpdateRoom (heldCount s) (heldEdgeCount s) t (length work) a c) work;
     }

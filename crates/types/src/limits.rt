@@ -1,4 +1,5 @@
 // `DagLimits` of dag_watch.rs: how large a layout may be. Callers may give others than the default.
+#[repr(C)]
 pub struct DagLimits {
     pub segments: u64,
     pub edges: u64,

@@ -1,5 +1,7 @@
-// Ids, row numbers, and what goes in and comes out by value. Texts are numbers: 0 is the empty one.
+// Ids, row numbers, and what goes in and comes out by value. Texts are numbers: 0 is the empty one. What a host in another language
+// hands over by value has the layout of C.
 use answers::Refusal;
+use answers::Updated;
 
 // A segment, whatever row it stands in.
 pub struct SegmentId(pub u64);
@@ -61,6 +63,7 @@ pub enum OrderingMode {
 }
 
 // One assigned segment, with the range that the assignment gives it.
+#[repr(C)]
 pub struct Assigned {
     pub id: u64,
     pub start: u32,
@@ -68,12 +71,14 @@ pub struct Assigned {
 }
 
 // A text that may be absent.
+#[repr(C)]
 pub struct Name {
     pub present: bool,
     pub text: u64,
 }
 
 // `DagWatchSession` of dag_watch.rs: what is known of one watched topic, but for the held tables, which are lent.
+#[repr(C)]
 pub struct Session {
     pub id: u64,
     pub held: bool,
@@ -87,6 +92,7 @@ pub struct Session {
 }
 
 // An update of the broker, but for its tables, which are lent. `code` is the signed 32-bit error code, as its 32 bits.
+#[repr(C)]
 pub struct Update {
     pub session: u64,
     pub layout: bool,
@@ -98,4 +104,10 @@ pub struct Update {
     pub resolved: Name,
     pub controller: Name,
     pub secure: Name,
+}
+
+// What an update answers, and the session after it.
+pub struct Outcome {
+    pub session: Session,
+    pub answer: Updated,
 }
