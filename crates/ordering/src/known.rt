@@ -26,8 +26,7 @@ fn edge_start(rows: &[u64], h: usize, g: usize, r: usize) -> usize
     let mut at = 0;
     let mut i = 0;
     while i < r {
-        let row = i * rules::HELD;
-        at = at + rows[row + 9] as usize + rows[row + 10] as usize;
+        at = walk::starts::next_start(rows, h, g, i, at);
         i += 1;
     }
     at

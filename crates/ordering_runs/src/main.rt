@@ -1,5 +1,5 @@
 // Ordering queries over layouts that the judge accepted and over tables that no layout left, a line each: the query as the listing
-// writes it (segment, mode, history, completed), the answer, and how many parent references were read.
+// writes it (segment, mode, history, completed), the answer, how many parent references were read, and whether the segment may be read.
 use types::records::OrderingMode;
 use types::records::SegmentId;
 
@@ -271,6 +271,91 @@ fn run_lost() {
     lost_parent(&rows, &edges);
 }
 
+// Ancestors with a row and without one come in one ascending list; 5 and 9 are each other's parents, so each is its own ancestor.
+fn mixed_parents(rows: &[u64], edges: &[u64], all: &[u64], some: &[u64]) {
+    let none = &edges[..0];
+    ask(rows, edges, 3, 7, OrderingMode::Strict, 9, none, none);
+    ask(rows, edges, 3, 7, OrderingMode::Strict, 9, all, none);
+    ask(rows, edges, 3, 7, OrderingMode::Strict, 5, all, some);
+    ask(
+        rows,
+        edges,
+        3,
+        7,
+        OrderingMode::BrokerManaged,
+        9,
+        some,
+        none,
+    );
+    ask(
+        rows,
+        edges,
+        3,
+        7,
+        OrderingMode::BrokerManaged,
+        9,
+        some,
+        some,
+    );
+    ask(rows, edges, 3, 7, OrderingMode::Strict, 2, none, none);
+}
+
+const MIXED: [u64; 45] = [
+    2,
+    0,
+    65535,
+    1,
+    0,
+    0,
+    0,
+    0,
+    0,
+    0,
+    0,
+    0,
+    0,
+    0,
+    0,
+    5,
+    0,
+    65535,
+    1,
+    0,
+    0,
+    0,
+    0,
+    0,
+    3,
+    0,
+    0,
+    0,
+    0,
+    0,
+    9,
+    0,
+    65535,
+    1,
+    0,
+    0,
+    0,
+    0,
+    0,
+    4,
+    0,
+    0,
+    0,
+    0,
+    0,
+];
+
+fn run_mixed() {
+    let rows = MIXED;
+    let edges = [9, 4, 2, 7, 5, 3, 7u64];
+    let all = [2, 3, 4, 5, 7, 9u64];
+    let some = [9, 3u64];
+    mixed_parents(&rows, &edges, &all, &some);
+}
+
 // What the worked example says of one segment's edges.
 fn neighbours(rows: &[u64], edges: &[u64], id: u64) {
     print::judged(
@@ -353,4 +438,6 @@ fn main() {
     run_own();
     print::line(b"a parent without a row");
     run_lost();
+    print::line(b"parents with a row and without one");
+    run_mixed();
 }

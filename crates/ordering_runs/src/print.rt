@@ -108,7 +108,11 @@ pub fn answer(o: Ordering, first: &[u64], second: &[u64]) {
     }
     text(b", read");
     word(o.read);
-    text(b"\n");
+    if ordering::permits_flow(eligibility) {
+        text(b", permitted\n");
+    } else {
+        text(b", not permitted\n");
+    }
 }
 
 pub fn judged(label: &[u8], id: u64, j: Judged) {

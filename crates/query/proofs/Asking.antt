@@ -1,15 +1,12 @@
 -- The query on good tables: what the answer by its lists is, is what the rule says.
 --     asked-row, asked-nothing     a segment with a row, and one without
 -- Assumes nothing.
-use Prim.Native.Nat.{ℕ, zero, suc, _*_, _<_}
-use native.Mathlib.Omega.{arith}
+use Prim.Native.Nat.{ℕ, _*_, _<_}
 use mathlib.Core.Path.{_≡_, refl, sym, ap, subst, _∙_}
 use mathlib.Core.Bool.{true}
 use mathlib.Core.List.{List, [], _∷_}
-use lib.ListN.{length, getD}
-use Rattle.lists.specs.Lists.{has, _∈_}
-use Rattle.lists.specs.Sets.{Ascending}
-use Rattle.lists.proofs.SetLaws.{here, there}
+use lib.ListN.{getD}
+use Rattle.lists.specs.Lists.{has}
 use Rattle.words.specs.Part.{part}
 use Rattle.words.specs.Table.{ids, whereIs, Ascends}
 use Rattle.words.specs.declared.Found.{Found}
@@ -26,24 +23,12 @@ use Rattle.rules.specs.Ordering.{ordering, answered, orderingOf, readOf, unknow
 use Rattle.rules.proofs.Ancestry.{ancestors-ascending}
 use Rattle.tabled.specs.Image.{Tabled}
 use Rattle.walk.proofs.ByParents.{row-at}
+use Rattle.walk.proofs.Merging.{places}
 use Rattle.walk.specs.declared.Ancestry.{Ancestry}
 use Rattle.walk.specs.Kept.{Listed}
 use Rattle.query.specs.Told.{Told, rowAnswer, prunedIn, remoteIn, incompleteIn, Replied}
 use Rattle.tabled.proofs.HasRow.{hit, has-row}
 use Rattle.query.proofs.Pruned.{pruned-are, remote-are, incomplete-are}
-
--- an ascending list by its places
-place-in : (l : List ℕ) (q : ℕ) → q < length l → getD l q 0 ∈ l
-place-in [] q h = absurd (omega arith)
-place-in (x ∷ l) zero h = here x l
-place-in (x ∷ l) (suc q) h = there (getD l q 0) x l (place-in l q (omega arith))
-
-places : (l : List ℕ) → Ascending l → Ascends l
-places [] a p q h k = absurd (omega arith)
-places (x ∷ l) a zero zero h k = absurd (omega arith)
-places (x ∷ l) a zero (suc q) h k = a .0 (getD l q 0) (place-in l q (omega arith))
-places (x ∷ l) a (suc p) zero h k = absurd (omega arith)
-places (x ∷ l) a (suc p) (suc q) h k = places l (a .1) p q (omega arith) (omega arith)
 
 -- the count of an answer of a segment with a row
 read-is : (mode : OrderingMode) (id : ℕ) (P R I : List ℕ) (n : ℕ) → readOf (rowAnswer mode id P R I n) ≡ n

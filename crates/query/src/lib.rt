@@ -36,7 +36,7 @@ fn ask_row(
     ensures { λ r. ⌜ Replied (ordering (heldSegments (now (rows .entry)) (now (edges .entry)) h) mode id (now (history .entry)) (now (completed .entry))) r (now (first .entry)) (now (first .exit)) (now (second .entry)) (now (second .exit)) ⌝ }
 {
     let g = edges.len();
-    let b = 3 * h + 3 * g;
+    let b = 4 * h + 4 * g;
     let all = walk::ancestors_of(rows, edges, h, row, work);
     let eligibility = answer::answer_row(
         rows,

@@ -5,7 +5,7 @@ use native.Mathlib.Omega.{arith}
 use native.Mathlib.Numerals.{add-one}
 use mathlib.Core.Path.{_≡_, refl, sym, ap, _∙_}
 use mathlib.Core.Bool.{Bool, true, false, cond, not, _||_}
-use mathlib.Core.Logic.{_⊎_, ⊎-elim}
+use mathlib.Core.Logic.{⊎-elim}
 use mathlib.Core.List.{List, [], _∷_, _++_}
 use borrow.Author.Tests.{eqb-true, eqb-false}
 use lib.Dec.{eqb}
@@ -20,13 +20,8 @@ use Rattle.words.specs.Table.{ids}
 use Rattle.words.proofs.TableLaws.{length-ids, ids-at}
 use Rattle.tabled.proofs.Kept.{word-kept}
 use Rattle.walk.specs.Kept.{Kept, Rises, isNew}
-use Rattle.walk.proofs.Singles.{in-snoc}
+use Rattle.walk.proofs.Singles.{asc-snoc}
 use Rattle.walk.proofs.Steps.{part-more}
-
-asc-snoc : (x : ℕ) (a : List ℕ) → Ascending a → ((z : ℕ) → z ∈ a → z < x) → Ascending (a ++ (x ∷ []))
-asc-snoc x [] u h = ((λ y i. never i), tt)
-asc-snoc x (y ∷ a) u h =
-    ((λ z i. ⊎-elim (λ (k : z ∈ a). u .0 z k) (λ (e : z ≡ x). rw e (h y (here y a))) (in-snoc z x a i)), asc-snoc x a (u .1) (λ z i. h z (there z y a i)))
 
 or-idle : (s t : Bool) → (t ≡ true → s ≡ true) → s ≡ (s || (t || false))
 or-idle true t h = refl

@@ -2,9 +2,11 @@ pub mod ByParents
 pub mod Singles
 pub mod Joined
 pub mod Meeting
+pub mod Scanning
 pub mod Reach
 pub mod Steps
 pub mod Turns
 pub mod Climbing
 pub mod Keeping
 pub mod Sorting
+pub mod Merging

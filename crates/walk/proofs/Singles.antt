@@ -1,5 +1,6 @@
 -- Lists of numbers in which none stands twice:
 --     single-snoc, single-front, single-map     one more, the front of one, and its image
+--     asc-snoc                                  one more of an ascending list
 --     total-all, total-kept, total-map          sums over one, as sums over the ascending list of the same numbers
 --     no-more                                   there are at most n numbers below n
 -- Assumes nothing.
@@ -14,7 +15,7 @@ use borrow.Author.Tests.{eq-eqb, eqb-true}
 use lib.Dec.{eqb, ltb}
 use lib.ListN.{length, take}
 use Rattle.lists.specs.Lists.{has, _∈_, _∉_}
-use Rattle.lists.specs.Sets.{add, addAll, keep, total}
+use Rattle.lists.specs.Sets.{Ascending, add, addAll, keep, total}
 use Rattle.lists.proofs.SortLaws.{true-or-false}
 use Rattle.lists.proofs.SetLaws.{never, here, there, in-cons, in-all, has-append, length-add, asc-all, fits}
 use Rattle.walk.specs.Met.{Single}
@@ -65,6 +66,13 @@ in-map f y (x ∷ l) h = go (in-map f y l) (in-cons y (f x) (map f l) h)
 pub map-in : (f : ℕ → ℕ) (x : ℕ) (l : List ℕ) → x ∈ l → f x ∈ map f l
 map-in f x [] h = never h
 map-in f x (y ∷ l) h = ⊎-elim (λ (e : x ≡ y). rw e (here (f y) (map f l))) (λ (k : x ∈ l). there (f x) (f y) (map f l) (map-in f x l k)) (in-cons x y l h)
+
+-- ---- one more at the end of an ascending list
+
+pub asc-snoc : (x : ℕ) (a : List ℕ) → Ascending a → ((z : ℕ) → z ∈ a → z < x) → Ascending (a ++ (x ∷ []))
+asc-snoc x [] u h = ((λ y i. never i), tt)
+asc-snoc x (y ∷ a) u h =
+    ((λ z i. ⊎-elim (λ (k : z ∈ a). u .0 z k) (λ (e : z ≡ x). rw e (h y (here y a))) (in-snoc z x a i)), asc-snoc x a (u .1) (λ z i. h z (there z y a i)))
 
 -- ---- none twice
 

@@ -1,7 +1,7 @@
 -- What the stores of the walk make of its words in the work area:
 --     set-inside, set-past, set-ahead, part-more     a word stored in a part, past it, before it, at its end
---     read-step       a reference read
---     row-step        a row met
+--     bare-step       an id without a row read
+--     row-step        a row reached
 --     meet-asks, meet-found, meet-nothing     both, as `meet_parent` does them
 --     starts-next, starts-kept                where the edges of the rows begin
 -- Assumes nothing.
@@ -25,7 +25,7 @@ use Rattle.words.proofs.PartLaws.{part-length, part-at}
 use Rattle.words.proofs.TableLaws.{length-ids, ids-at, row-found}
 use Rattle.rules.specs.Tables.{heldWidth, startOf}
 use Rattle.tabled.proofs.Kept.{word-kept}
-use Rattle.walk.specs.Met.{met, meetRow, meet, Held, marksIn, listIn, readIn, metIn, StartsIn}
+use Rattle.walk.specs.Met.{Met, met, meetRow, meet, Held, marksIn, listIn, bareIn, metIn, StartsIn}
 use Rattle.walk.proofs.Meeting.{room}
 
 module _ (w : List ℕ) (a n v : ℕ) where
@@ -68,89 +68,83 @@ ids-more t m p h =
     at i k = ⊎-elim (λ (l : i < m). old i l) (λ (l : m ≤ i). last i (omega arith)) (lt-or-le i m)
 
 met-eq : {m m′ l l′ r r′ : List ℕ} → m ≡ m′ → l ≡ l′ → r ≡ r′ → met m l r ≡ met m′ l′ r′
-met-eq p q e = λ i. record { mark = p i; list = q i; read = e i }
+met-eq p q e = λ i. record { mark = p i; list = q i; bare = e i }
 
--- ---- a reference read
+-- ---- an id without a row read
 
-module _ (n len m p : ℕ) (w : List ℕ) (ln : len ≤ n) (big : 3 * n + 3 * m < length w) where
-  pub read-step : metIn n len (m + 1) (set w (3 * n + 3 * m) p) ≡ met (marksIn n w) (listIn n len w) (readIn n m w ++ (p ∷ []))
-  read-step =
-      let e : 3 * m ≡ m * 3 = omega arith in
-      let r : readIn n (m + 1) (set w (3 * n + 3 * m) p) ≡ readIn n m w ++ (p ∷ []) =
-      rw (drop-set-add (3 * n) w (3 * m) p, e) (ids-more (drop (3 * n) w) m p (rw length-drop (omega arith))) in
-      met-eq (set-past w n n p (3 * n + 3 * m) (omega arith)) (set-past w (2 * n) len p (3 * n + 3 * m) (omega arith)) r
+module _ (n len k p : ℕ) (w : List ℕ) (ln : len ≤ n) (big : 3 * n + 3 * k < length w) where
+  bare-step : metIn n len (k + 1) (set w (3 * n + 3 * k) p) ≡ met (marksIn n w) (listIn n len w) (bareIn n k w ++ (p ∷ []))
+  bare-step =
+      let e : 3 * k ≡ k * 3 = omega arith in
+      let r : bareIn n (k + 1) (set w (3 * n + 3 * k) p) ≡ bareIn n k w ++ (p ∷ []) =
+      rw (drop-set-add (3 * n) w (3 * k) p, e) (ids-more (drop (3 * n) w) k p (rw length-drop (omega arith))) in
+      met-eq (set-past w n n p (3 * n + 3 * k) (omega arith)) (set-past w (2 * n) len p (3 * n + 3 * k) (omega arith)) r
 
-  pub read-front : take n (set w (3 * n + 3 * m) p) ≡ take n w
-  read-front = take-set-le n w (3 * n + 3 * m) p (omega arith)
+  bare-front : take n (set w (3 * n + 3 * k) p) ≡ take n w
+  bare-front = take-set-le n w (3 * n + 3 * k) p (omega arith)
 
--- ---- a row met
+-- ---- a row reached
 
-module _ (n len m r : ℕ) (w : List ℕ) (rn : r < n) (big : 3 * n ≤ length w) where
+module _ (n len k p r : ℕ) (w : List ℕ) (rn : r < n) (big : 3 * n ≤ length w) where
+  abbrev marked : List ℕ
+  marked = set w (n + r) 1
+
   abbrev stored : List ℕ
-  stored = set (set w (n + r) 1) (2 * n + len) r
+  stored = set marked (2 * n + len) r
 
-  row-new : len < n → metIn n (len + 1) m stored ≡ met (set (marksIn n w) r 1) (listIn n len w ++ (r ∷ [])) (readIn n m w)
+  row-old : metIn n len k marked ≡ met (set (marksIn n w) r 1) (listIn n len w) (bareIn n k w)
+  row-old =
+      met-eq (set-inside w n n 1 r rn) (set-ahead w (2 * n) len 1 (n + r) (omega arith))
+      (ap (λ (l : List ℕ). ids l 3 k) (drop-set-lt (3 * n) w (n + r) 1 (omega arith)))
+
+  row-new : len < n → metIn n (len + 1) k stored ≡ met (set (marksIn n w) r 1) (listIn n len w ++ (r ∷ [])) (bareIn n k w)
   row-new ln =
-      let w₁ : List ℕ = set w (n + r) 1 in
-      let a : marksIn n stored ≡ set (marksIn n w) r 1 = set-past w₁ n n r (2 * n + len) (omega arith) ∙ set-inside w n n 1 r rn in
-      let b : listIn n (len + 1) stored ≡ listIn n len w ++ (r ∷ []) =
-      part-more w₁ (2 * n) len r (rw length-set (omega arith)) ∙ ap (λ (l : List ℕ). l ++ (r ∷ [])) (set-ahead w (2 * n) len 1 (n + r) (omega arith)) in
-      let c : readIn n m stored ≡ readIn n m w =
-      ap (λ (l : List ℕ). ids l 3 m) (drop-set-lt (3 * n) w₁ (2 * n + len) r (omega arith) ∙ drop-set-lt (3 * n) w (n + r) 1 (omega arith)) in
-      met-eq a b c
+      let a : marksIn n stored ≡ marksIn n marked = set-past marked n n r (2 * n + len) (omega arith) in
+      let b : listIn n (len + 1) stored ≡ listIn n len marked ++ (r ∷ []) = part-more marked (2 * n) len r (rw length-set (omega arith)) in
+      let c : bareIn n k stored ≡ bareIn n k marked = ap (λ (l : List ℕ). ids l 3 k) (drop-set-lt (3 * n) marked (2 * n + len) r (omega arith)) in
+      met-eq (a ∙ ap (λ (s : Met). s .mark) row-old) (b ∙ ap (λ (s : Met). s .list ++ (r ∷ [])) row-old) (c ∙ ap (λ (s : Met). s .bare) row-old)
 
-  pub mark-read : getD (marksIn n w) r 0 ≡ getD w (n + r) 0
+  mark-read : getD (marksIn n w) r 0 ≡ getD w (n + r) 0
   mark-read = part-at w n n r rn
 
-  row-front : take n stored ≡ take n w
-  row-front = take-set-le n (set w (n + r) 1) (2 * n + len) r (omega arith) ∙ take-set-le n w (n + r) 1 (omega arith)
+  old-front : take n marked ≡ take n w
+  old-front = take-set-le n w (n + r) 1 (omega arith)
 
   -- what `add_row` does is what `meetRow` says
-  pub row-step : (w′ : List ℕ) (len′ : ℕ) → (getD w (n + r) 0 ≡ 0 → len < n) → w′ ≡ cond (eqb (getD w (n + r) 0) 0) stored w → len′ ≡ cond (eqb (getD w (n + r) 0) 0) (len + 1) len
-      → len ≤ n → (metIn n len′ m w′ ≡ meetRow (At r) (metIn n len m w)) × (len′ ≤ n) × (take n w′ ≡ take n w)
+  row-step : (w′ : List ℕ) (len′ : ℕ) → (getD w (n + r) 0 ≡ 0 → len < n) → w′ ≡ cond (eqb (getD w (n + r) 0) 0) stored marked → len′ ≡ cond (eqb (getD w (n + r) 0) 0) (len + 1) len
+      → len ≤ n → (metIn n len′ k w′ ≡ meetRow (At r) p (metIn n len k w)) × (len′ ≤ n) × (take n w′ ≡ take n w)
   row-step w′ len′ h ew el ln = rw (ew, el, mark-read) (go (eqb (getD w (n + r) 0) 0) refl)
     where
       go : (b : Bool) → eqb (getD w (n + r) 0) 0 ≡ b
-          → (metIn n (cond b (len + 1) len) m (cond b stored w) ≡ cond b (met (set (marksIn n w) r 1) (listIn n len w ++ (r ∷ [])) (readIn n m w)) (metIn n len m w))
-          × (cond b (len + 1) len ≤ n) × (take n (cond b stored w) ≡ take n w)
-      go true e = let k : len < n = h (eqb-true _ _ e) in (row-new k, omega arith, row-front)
-      go false e = (refl, ln, refl)
+          → (metIn n (cond b (len + 1) len) k (cond b stored marked) ≡ met (set (marksIn n w) r 1) (cond b (listIn n len w ++ (r ∷ [])) (listIn n len w)) (bareIn n k w))
+          × (cond b (len + 1) len ≤ n) × (take n (cond b stored marked) ≡ take n w)
+      go true e = let l : len < n = h (eqb-true _ _ e) in (row-new l, omega arith, take-set-le n marked (2 * n + len) r (omega arith) ∙ old-front)
+      go false e = (row-old, ln, old-front)
 
 -- ---- p is read: f is where its row was found
 
-module _ (rows : List ℕ) (n len m p : ℕ) (w : List ℕ) (ln : len ≤ n) (big : 3 * n + 3 * m < length w) (h : Held n (metIn n len m w)) (f : Found) (is : f ≡ whereIs (ids rows heldWidth n) p) where
-  abbrev after : List ℕ
-  after = set w (3 * n + 3 * m) p
-
-  long : 3 * n ≤ length after
-  long = rw length-set (omega arith)
-
+module _ (rows : List ℕ) (n len k p : ℕ) (w : List ℕ) (ln : len ≤ n) (big : 3 * n + 3 * k < length w) (h : Held n (metIn n len k w)) (f : Found) (is : f ≡ whereIs (ids rows heldWidth n) p) where
   below : (r : ℕ) → f ≡ At r → r < n
   below r e = row-found rows heldWidth n p r (sym is ∙ e) .0
 
-  pub meet-asks : (r : ℕ) → f ≡ At r → ((r < n) × (3 * n ≤ length after)) × (getD after (n + r) 0 ≡ 0 → len < n)
+  pub meet-asks : (r : ℕ) → f ≡ At r → ((r < n) × (3 * n ≤ length w)) × (getD w (n + r) 0 ≡ 0 → len < n)
   meet-asks r e = (
-    (below r e, long),
+    (below r e, omega arith),
     λ z.
-        let a : getD (marksIn n w) r 0 ≡ 0 = part-at w n n r (below r e) ∙ sym (getD-set-other w (3 * n + 3 * m) (n + r) p 0 (apart r (below r e))) ∙ z in
         let b : length (listIn n len w) ≡ len = part-length w (2 * n) len (omega arith) in
-        omega (arith, room n (metIn n len m w) h r (below r e) a),
+        omega (arith, room n (metIn n len k w) h r (below r e) (part-at w n n r (below r e) ∙ z)),
   )
-    where
-      apart : (r : ℕ) → r < n → n + r ≡ 3 * n + 3 * m → ⊥
-      apart r l z = omega arith
 
   pub meet-found : (r : ℕ) (w′ : List ℕ) (len′ : ℕ) → f ≡ At r
-      → (w′ ≡ cond (eqb (getD after (n + r) 0) 0) (set (set after (n + r) 1) (2 * n + len) r) after) × (len′ ≡ cond (eqb (getD after (n + r) 0) 0) (len + 1) len)
-      → (metIn n len′ (m + 1) w′ ≡ meet (ids rows heldWidth n) p (metIn n len m w)) × (len′ ≤ n) × (take n w′ ≡ take n w)
+      → (w′ ≡ cond (eqb (getD w (n + r) 0) 0) (set (set w (n + r) 1) (2 * n + len) r) (set w (n + r) 1)) × (len′ ≡ cond (eqb (getD w (n + r) 0) 0) (len + 1) len)
+      → (metIn n len′ k w′ ≡ meet (ids rows heldWidth n) p (metIn n len k w)) × (len′ ≤ n) × (k ≤ k + 1) × (take n w′ ≡ take n w)
   meet-found r w′ len′ e g =
-      let s = row-step n len (m + 1) r after (below r e) long w′ len′ (meet-asks r e .1) (g .0) (g .1) ln in
-      let z : whereIs (ids rows heldWidth n) p ≡ At r = sym is ∙ e in
-      (s .0 ∙ ap (meetRow (At r)) (read-step n len m p w ln big) ∙ sym (ap (λ (k : Found). meetRow k (met (marksIn n w) (listIn n len w) (readIn n m w ++ (p ∷ [])))) z), s .1, s .2 ∙ read-front n len m p w ln big)
+      let s = row-step n len k p r w (below r e) (omega arith) w′ len′ (meet-asks r e .1) (g .0) (g .1) ln in
+      (s .0 ∙ sym (ap (λ (q : Found). meetRow q p (metIn n len k w)) (sym is ∙ e)), s .1, omega arith, s .2)
 
-  pub meet-nothing : f ≡ Nothing → (metIn n len (m + 1) after ≡ meet (ids rows heldWidth n) p (metIn n len m w)) × (len ≤ n) × (take n after ≡ take n w)
-  meet-nothing e =
-      (read-step n len m p w ln big ∙ sym (ap (λ (k : Found). meetRow k (met (marksIn n w) (listIn n len w) (readIn n m w ++ (p ∷ [])))) (sym is ∙ e)), ln, read-front n len m p w ln big)
+  pub meet-nothing : f ≡ Nothing
+      → (metIn n len (k + 1) (set w (3 * n + 3 * k) p) ≡ meet (ids rows heldWidth n) p (metIn n len k w)) × (len ≤ n) × (k + 1 ≤ k + 1) × (take n (set w (3 * n + 3 * k) p) ≡ take n w)
+  meet-nothing e = (bare-step n len k p w ln big ∙ sym (ap (λ (q : Found). meetRow q p (metIn n len k w)) (sym is ∙ e)), ln, omega arith, bare-front n len k p w ln big)
 
 -- ---- where the edges of the rows begin
 

@@ -2,11 +2,11 @@
 -- Assumes nothing.
 use Prim.Native.Nat.{ℕ, _+_, _-_, _*_, _<_, _≤_}
 use mathlib.Core.Path.{_≡_}
-use mathlib.Core.Bool.{Bool, true, cond, not}
+use mathlib.Core.Bool.{Bool, true, false, cond, not}
 use mathlib.Core.List.{List}
-use lib.Dec.{eqb}
+use lib.Dec.{eqb, ltb}
 use lib.ListN.{length, getD}
-use Rattle.lists.specs.Lists.{has}
+use Rattle.lists.specs.Lists.{has, _∈_, _∉_}
 use Rattle.lists.specs.Sets.{Ascending}
 use Rattle.words.specs.Part.{part}
 use Rattle.rules.specs.Tables.{heldWidth, heldSegments}
@@ -25,6 +25,14 @@ Rises w a m = (i j : ℕ) → i < j → j < m → getD w (a + 3 * i) 0 ≤ getD 
 -- row i has another id than the row before it
 abbrev pub isNew : List ℕ → ℕ → ℕ → Bool
 isNew w a i = cond (eqb i 0) true (not (eqb (getD w (a + 3 * i) 0) (getD w (a + 3 * (i - 1)) 0)))
+
+-- no id stands in both
+abbrev pub Apart : List ℕ → List ℕ → Type 0
+Apart l k = (z : ℕ) → z ∈ l → z ∉ k
+
+-- of m ids from word a on i were taken, and j of k ids from word b on: the next is the first list's
+abbrev pub firstIsNext : List ℕ → ℕ → ℕ → ℕ → ℕ → ℕ → ℕ → Bool
+firstIsNext w a m i b k j = cond (eqb i m) false (cond (eqb j k) true (ltb (getD w (a + i) 0) (getD w (b + j) 0)))
 
 -- the ancestors of the segment of row a stand from word b on, and its references were counted
 pub record Listed (rows edges : List ℕ) (n a b : ℕ) (w : List ℕ) (r : Ancestry) : Type 0 where

@@ -8,24 +8,8 @@ ghost use Rattle.words.specs.Table.{ids, Ascends};
 ghost use Rattle.rules.specs.Tables.{heldWidth, parentsAt, edgesFrom};
 ghost use Rattle.tabled.specs.Image.{Tabled, segmentIn};
 ghost use Rattle.walk.specs.Met.{Held, meet, meetAll, metIn, marksIn, StartsIn, Climbed};
+use crate::starts;
 use words::Found;
-
-// The front of w says where the edges of each of the n rows begin; g is how many edge words they have.
-fn fill_starts(rows: &[u64], n: usize, g: usize, w: &mut [u64])
-    requires { ⌜ n * heldWidth ≤ length (now rows) ⌝ }
-    requires { ⌜ edgesFrom heldWidth (now rows) n 0 ≡ g ⌝ }
-    requires { ⌜ n ≤ length (now w) ⌝ }
-    ensures { λ _. ⌜ StartsIn (now (rows .entry)) n (now (w .exit)) ⌝ }
-{
-    let mut at = 0;
-    let mut i = 0;
-    while i < n {
-        w[i] = at as u64;
-        let row = i * rules::HELD;
-        at = at + rows[row + 9] as usize + rows[row + 10] as usize;
-        i += 1;
-    }
-}
 
 // Where the edges of each of the n rows begin, and no row met.
 pub fn prepare(rows: &[u64], n: usize, g: usize, w: &mut [u64])
@@ -34,56 +18,71 @@ pub fn prepare(rows: &[u64], n: usize, g: usize, w: &mut [u64])
     requires { ⌜ 2 * n ≤ length (now w) ⌝ }
     ensures { λ _. ⌜ StartsIn (now (rows .entry)) n (now (w .exit)) × (marksIn n (now (w .exit)) ≡ replicate n 0) ⌝ }
 {
-    fill_starts(rows, n, g, w);
+    starts::fill_starts(rows, n, g, w);
     words::clear(&mut w[n..2 * n]);
 }
 
-// Row r joins the len rows met, unless it was met before; the answer is how many were met.
+// How many rows were met, and how many ids without a row were read.
+pub struct Tally {
+    pub met: usize,
+    pub bare: usize,
+}
+
+// How many parent references a walk read, and how many of them to ids without a row.
+pub struct Walked {
+    pub read: usize,
+    pub bare: usize,
+}
+
+// Row r was reached, and joins the len rows met, unless it was met before; the answer is how many were met.
 fn add_row(n: usize, r: usize, len: usize, w: &mut [u64]) -> usize
     requires { ⌜ (r < n) × (3 * n ≤ length (now w)) ⌝ }
     requires { ⌜ (getD (now w) (n + r) 0 ≡ 0 → len < n) ⌝ }
-    ensures { λ _. ⌜ now (w .exit) ≡ cond (eqb (getD (now (w .entry)) (n + r) 0) 0) (set (set (now (w .entry)) (n + r) 1) (2 * n + len) r) (now (w .entry)) ⌝ }
+    ensures { λ _. ⌜ now (w .exit) ≡ cond (eqb (getD (now (w .entry)) (n + r) 0) 0) (set (set (now (w .entry)) (n + r) 1) (2 * n + len) r) (set (now (w .entry)) (n + r) 1) ⌝ }
     ensures { λ k. ⌜ k ≡ cond (eqb (getD (now (w .entry)) (n + r) 0) 0) (len + 1) len ⌝ }
 {
-    if w[n + r] != 0 {
+    let mark = w[n + r];
+    w[n + r] = 1;
+    if mark != 0 {
         return len;
     }
-    w[n + r] = 1;
     w[2 * n + len] = r as u64;
     len + 1
 }
 
-// The parent p is read as reference number m.
-fn meet_parent(rows: &[u64], n: usize, p: u64, len: usize, m: usize, w: &mut [u64]) -> usize
+// The parent p is read.
+fn meet_parent(rows: &[u64], n: usize, p: u64, t: Tally, w: &mut [u64]) -> Tally
     requires { ⌜ (n * heldWidth ≤ length (now rows)) × Ascends (ids (now rows) heldWidth n) ⌝ }
-    requires { ⌜ (len ≤ n) × (3 * n + 3 * m < length (now w)) × Held n (metIn n len m (now w)) ⌝ }
-    ensures { λ k. ⌜ (metIn n k (m + 1) (now (w .exit)) ≡ meet (ids (now (rows .entry)) heldWidth n) p (metIn n len m (now (w .entry)))) × (k ≤ n) × (take n (now (w .exit)) ≡ take n (now (w .entry))) ⌝ }
+    requires { ⌜ (t .met ≤ n) × (3 * n + 3 * t .bare < length (now w)) × Held n (metIn n (t .met) (t .bare) (now w)) ⌝ }
+    ensures { λ k. ⌜ (metIn n (k .met) (k .bare) (now (w .exit)) ≡ meet (ids (now (rows .entry)) heldWidth n) p (metIn n (t .met) (t .bare) (now (w .entry)))) × (k .met ≤ n) × (k .bare ≤ t .bare + 1) × (take n (now (w .exit)) ≡ take n (now (w .entry))) ⌝ }
 {
-    w[3 * n + 3 * m] = p;
     let found = words::find_row(rows, rules::HELD, n, p);
+    let bare = t.bare;
     match found {
-        Found::At(r) => add_row(n, r, len, w),
-        Found::Nothing => len,
+        Found::At(r) => {
+            let met = add_row(n, r, t.met, w);
+            Tally { met, bare }
+        }
+        Found::Nothing => {
+            w[3 * n + 3 * bare] = p;
+            Tally {
+                met: t.met,
+                bare: bare + 1,
+            }
+        }
     }
 }
 
-// The parents of one row are read, as references number m and on.
-fn meet_parents(
-    rows: &[u64],
-    n: usize,
-    parents: &[u64],
-    len: usize,
-    m: usize,
-    w: &mut [u64],
-) -> usize
+// The parents of one row are read.
+fn meet_parents(rows: &[u64], n: usize, parents: &[u64], t: Tally, w: &mut [u64]) -> Tally
     requires { ⌜ (n * heldWidth ≤ length (now rows)) × Ascends (ids (now rows) heldWidth n) ⌝ }
-    requires { ⌜ (len ≤ n) × (3 * n + 3 * (m + length (now parents)) ≤ length (now w)) × Held n (metIn n len m (now w)) ⌝ }
-    ensures { λ k. ⌜ (metIn n k (m + length (now (parents .entry))) (now (w .exit)) ≡ meetAll (ids (now (rows .entry)) heldWidth n) (now (parents .entry)) (metIn n len m (now (w .entry)))) × (k ≤ n) × (take n (now (w .exit)) ≡ take n (now (w .entry))) ⌝ }
+    requires { ⌜ (t .met ≤ n) × (3 * n + 3 * (t .bare + length (now parents)) ≤ length (now w)) × Held n (metIn n (t .met) (t .bare) (now w)) ⌝ }
+    ensures { λ k. ⌜ (metIn n (k .met) (k .bare) (now (w .exit)) ≡ meetAll (ids (now (rows .entry)) heldWidth n) (now (parents .entry)) (metIn n (t .met) (t .bare) (now (w .entry)))) × (k .met ≤ n) × (take n (now (w .exit)) ≡ take n (now (w .entry))) ⌝ }
 {
-    let mut l = len;
+    let mut l = t;
     let mut j = 0;
     while j < parents.len() {
-        l = meet_parent(rows, n, parents[j], l, m + j, w);
+        l = meet_parent(rows, n, parents[j], l, w);
         j += 1;
     }
     l
@@ -97,41 +96,34 @@ fn parent_count(rows: &[u64], r: usize) -> usize
     rows[r * rules::HELD + 9] as usize
 }
 
-// The parents of row r are read, as references number m and on.
-fn expand(
-    rows: &[u64],
-    edges: &[u64],
-    n: usize,
-    r: usize,
-    len: usize,
-    m: usize,
-    w: &mut [u64],
-) -> usize
+// The parents of row r are read.
+fn expand(rows: &[u64], edges: &[u64], n: usize, r: usize, t: Tally, w: &mut [u64]) -> Tally
     requires { ⌜ Tabled (now rows) (now edges) n × (r < n) × StartsIn (now rows) n (now w) ⌝ }
-    requires { ⌜ (len ≤ n) × (3 * n + 3 * (m + parentsAt (now rows) (r * heldWidth)) ≤ length (now w)) × Held n (metIn n len m (now w)) ⌝ }
-    ensures { λ k. ⌜ (metIn n k (m + parentsAt (now (rows .entry)) (r * heldWidth)) (now (w .exit)) ≡ meetAll (ids (now (rows .entry)) heldWidth n) (segmentIn (now (rows .entry)) (now (edges .entry)) r .parents) (metIn n len m (now (w .entry)))) × (k ≤ n) × (take n (now (w .exit)) ≡ take n (now (w .entry))) ⌝ }
+    requires { ⌜ (t .met ≤ n) × (3 * n + 3 * (t .bare + parentsAt (now rows) (r * heldWidth)) ≤ length (now w)) × Held n (metIn n (t .met) (t .bare) (now w)) ⌝ }
+    ensures { λ k. ⌜ (metIn n (k .met) (k .bare) (now (w .exit)) ≡ meetAll (ids (now (rows .entry)) heldWidth n) (segmentIn (now (rows .entry)) (now (edges .entry)) r .parents) (metIn n (t .met) (t .bare) (now (w .entry)))) × (k .met ≤ n) × (take n (now (w .exit)) ≡ take n (now (w .entry))) ⌝ }
 {
     let from = w[r] as usize;
     let count = parent_count(rows, r);
-    meet_parents(rows, n, &edges[from..from + count], len, m, w)
+    meet_parents(rows, n, &edges[from..from + count], t, w)
 }
 
-// All parents of row a are read, and those of each row that is met so; the answer is how many parent references were read.
-pub fn climb(rows: &[u64], edges: &[u64], n: usize, a: usize, w: &mut [u64]) -> usize
+// All parents of row a are read, and those of each row that is met so.
+pub fn climb(rows: &[u64], edges: &[u64], n: usize, a: usize, w: &mut [u64]) -> Walked
     requires { ⌜ Tabled (now rows) (now edges) n × (a < n) ⌝ }
     requires { ⌜ (3 * n + 3 * length (now edges) ≤ length (now w)) × StartsIn (now rows) n (now w) × (marksIn n (now w) ≡ replicate n 0) ⌝ }
     ensures { λ r. ⌜ Climbed (now (rows .entry)) (now (edges .entry)) n a (now (w .exit)) r ⌝ }
 {
-    w[n + a] = 1;
+    w[n + a] = 2;
     w[2 * n] = a as u64;
-    let mut len: usize = 1;
+    let mut t = Tally { met: 1, bare: 0 };
     let mut m: usize = 0;
     let mut q: usize = 0;
-    while q < len {
+    while q < t.met {
         let r = w[2 * n + q] as usize;
-        len = expand(rows, edges, n, r, len, m, w);
+        t = expand(rows, edges, n, r, t, w);
         m += parent_count(rows, r);
         q += 1;
     }
-    m
+    let bare = t.bare;
+    Walked { read: m, bare }
 }

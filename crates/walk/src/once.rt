@@ -2,7 +2,7 @@
 ghost use mathlib.Core.Path.{_≡_};
 ghost use mathlib.Core.Bool.{cond};
 ghost use Prim.Native.Nat.{_+_, _*_, _<_, _≤_};
-ghost use lib.ListN.{length, getD, set, drop};
+ghost use lib.ListN.{length, getD, set, take, drop};
 ghost use Rattle.words.specs.Part.{part};
 ghost use Rattle.words.specs.Table.{ids};
 ghost use Rattle.walk.specs.Kept.{Kept, Rises, isNew};
@@ -35,7 +35,7 @@ fn keep_new(w: &mut [u64], a: usize, i: usize, b: usize, k: usize) -> usize
 // The same of rows that rise.
 fn keep_once(w: &mut [u64], a: usize, m: usize, b: usize) -> usize
     requires { ⌜ (a + 3 * m ≤ b) × (b + m ≤ length (now w)) × Rises (now w) a m ⌝ }
-    ensures { λ k. ⌜ Kept (part (now (w .exit)) b k) (ids (drop a (now (w .entry))) 3 m) × (k ≤ m) ⌝ }
+    ensures { λ k. ⌜ Kept (part (now (w .exit)) b k) (ids (drop a (now (w .entry))) 3 m) × (k ≤ m) × (take b (now (w .exit)) ≡ take b (now (w .entry))) ⌝ }
 {
     let mut k = 0;
     let mut i = 0;
@@ -49,7 +49,7 @@ fn keep_once(w: &mut [u64], a: usize, m: usize, b: usize) -> usize
 // The ids of the m rows from word a on, in any order, each once, go to word b and on; the answer is how many they are.
 pub fn list_once(w: &mut [u64], a: usize, m: usize, b: usize) -> usize
     requires { ⌜ (a + 3 * m ≤ b) × (b + m ≤ length (now w)) ⌝ }
-    ensures { λ k. ⌜ Kept (part (now (w .exit)) b k) (ids (drop a (now (w .entry))) 3 m) × (k ≤ m) ⌝ }
+    ensures { λ k. ⌜ Kept (part (now (w .exit)) b k) (ids (drop a (now (w .entry))) 3 m) × (k ≤ m) × (take a (now (w .exit)) ≡ take a (now (w .entry))) ⌝ }
 {
     sorts::sort3(&mut w[a..a + 3 * m], m);
     keep_once(w, a, m, b)

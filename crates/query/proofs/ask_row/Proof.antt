@@ -29,7 +29,7 @@ answer-row-requires c κs =
     let a = c .before .before .before .before .before .ancestors-of in
     let room = s .pre .1 in
     let k = a .kept .1 .1 .1 .1 .0 in
-    ((omega (arith, s .pre .0 .0 .size), s .pre .0 .0 .up), ((omega (arith, a .ensures .fits), omega (arith, a .ensures .fits, k, room .for-work), listed-up (c .before .before .before .before .before .before .before .before .before .before .before .before .before .before .args .rows .now) (c .before .before .before .before .before .before .before .before .before .before .before .before .before .before .args .edges .now) (c .before .before .before .before .before .before .before .before .before .before .before .before .before .before .args .h) (c .before .before .before .before .before .before .before .before .before .before .before .before .before .before .pre .0 .0) (c .before .before .before .before .before .before .before .before .before .before .before .before .before .before .args .mode) (c .before .before .before .before .before .before .before .before .before .before .before .before .before .before .args .id) (c .before .before .before .before .before .before .before .before .before .before .before .before .before .before .args .history .now) (c .before .before .before .before .before .before .before .before .before .before .before .before .before .before .args .completed .now) (c .before .before .before .before .before .before .before .before .before .before .before .before .before .before .args .row .0) (3 * c .before .before .before .before .before .before .before .before .before .before .before .before .before .before .args .h + 3 * length (c .before .before .before .before .before .before .before .before .before .before .before .before .before .before .args .edges .now)) (c .before .before .before .before .before .ancestors-of .last .1 .1 .1 .1 .0) (c .before .before .before .before .before .ancestors-of .result) (c .before .before .before .before .before .before .before .before .before .before .before .before .before .before .pre .0 .2) (c .before .before .before .before .before .ancestors-of .ensures)), (omega (arith, a .ensures .fits, room .for-first), omega (arith, a .ensures .fits, room .for-second))))
+    ((omega (arith, s .pre .0 .0 .size), s .pre .0 .0 .up), ((omega (arith, a .ensures .fits), omega (arith, a .ensures .fits, k, room .for-work), listed-up (s .args .rows .now) (s .args .edges .now) (s .args .h) (s .pre .0 .0) (s .args .mode) (s .args .id) (s .args .history .now) (s .args .completed .now) (s .args .row .0) (4 * s .args .h + 4 * length (s .args .edges .now)) (a .last .1 .1 .1 .1 .0) (a .result) (s .pre .0 .2) (a .ensures)), (omega (arith, a .ensures .fits, room .for-first), omega (arith, a .ensures .fits, room .for-second))))
 
 same-length : tie.Need-same-length
 same-length c = search needs
@@ -41,7 +41,10 @@ same-length-3 : tie.Need-same-length-3
 same-length-3 c = search needs
 
 returns : tie.Need-returns
-returns c = asked-row (c .before .before .before .before .before .before .before .before .before .before .before .before .before .before .before .before .before .before .before .before .before .args .rows .now) (c .before .before .before .before .before .before .before .before .before .before .before .before .before .before .before .before .before .before .before .before .before .args .edges .now) (c .before .before .before .before .before .before .before .before .before .before .before .before .before .before .before .before .before .before .before .before .before .args .h) (c .before .before .before .before .before .before .before .before .before .before .before .before .before .before .before .before .before .before .before .before .before .pre .0 .0) (c .before .before .before .before .before .before .before .before .before .before .before .before .before .before .before .before .before .before .before .before .before .args .mode) (c .before .before .before .before .before .before .before .before .before .before .before .before .before .before .before .before .before .before .before .before .before .args .id) (c .before .before .before .before .before .before .before .before .before .before .before .before .before .before .before .before .before .before .before .before .before .args .history .now) (c .before .before .before .before .before .before .before .before .before .before .before .before .before .before .before .before .before .before .before .before .before .args .completed .now) (c .before .before .before .before .before .before .before .before .before .before .before .before .before .before .before .before .before .before .before .before .before .args .row .0) (3 * c .before .before .before .before .before .before .before .before .before .before .before .before .before .before .before .before .before .before .before .before .before .args .h + 3 * length (c .before .before .before .before .before .before .before .before .before .before .before .before .before .before .before .before .before .before .before .before .before .args .edges .now)) (c .before .before .before .before .before .before .before .before .before .before .before .before .ancestors-of .last .1 .1 .1 .1 .0) (c .before .before .before .before .before .before .before .before .before .before .before .before .ancestors-of .result) (c .before .before .before .before .before .before .before .before .before .before .before .before .before .before .before .before .before .before .before .before .before .pre .0 .2) (c .before .before .before .before .before .before .before .before .before .before .before .before .ancestors-of .ensures) (c .before .before .before .before .before .before .before .before .before .before .before .before .before .before .before .before .before .before .before .before .before .pre .0 .1) _ _ _ _ _ (c .before .before .before .before .before .before .answer-row .ensures)
+returns c =
+    let s = c .before .before .before .before .before .before .before .before .before .before .before .before .before .before .before .before .before .before .before .before .before in
+    let a = c .before .before .before .before .before .before .before .before .before .before .before .before .ancestors-of in
+    asked-row (s .args .rows .now) (s .args .edges .now) (s .args .h) (s .pre .0 .0) (s .args .mode) (s .args .id) (s .args .history .now) (s .args .completed .now) (s .args .row .0) (4 * s .args .h + 4 * length (s .args .edges .now)) (a .last .1 .1 .1 .1 .0) (a .result) (s .pre .0 .2) (a .ensures) (s .pre .0 .1) _ _ _ _ _ (c .before .before .before .before .before .before .answer-row .ensures)
 
 pub ask-row-spec : {M : Type 1} → statement M
 ask-row-spec =

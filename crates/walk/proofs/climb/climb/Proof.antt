@@ -12,11 +12,11 @@ use Rattle.walk.proofs.climb.climb.Statement.{statement}
 use Rattle.walk.proofs.climb.climb.Tie as tie
 
 abbrev Inv-loop : tie.InvT-loop
-Inv-loop rows edges n a w₀ len₀ m₀ q₀ w len m q =
-    (q ≤ len) × (len ≤ n) × (m ≤ length edges) × (length w ≡ length w₀) × (3 * n + 3 * length edges ≤ length w) × StartsIn rows n w × Reached rows edges n a q (metIn n len m w)
+Inv-loop rows edges n a w₀ t₀ m₀ q₀ w t m q =
+    (q ≤ t .met) × (t .met ≤ n) × (m ≤ length edges) × (length w ≡ length w₀) × (3 * n + 3 * length edges ≤ length w) × StartsIn rows n w × Reached rows edges n a q m (metIn n (t .met) (t .bare) w)
 
 abbrev μ-loop : tie.MeasureT-loop
-μ-loop rows edges n a w₀ len₀ m₀ q₀ w len m q = n - q
+μ-loop rows edges n a w₀ t₀ m₀ q₀ w t m q = n - q
 
 add-w : tie.Need-add-w Inv-loop μ-loop
 add-w c = search needs
@@ -39,7 +39,7 @@ slice-write-w-2 c = simp length-set (omega arith)
 loop-holds : tie.Need-loop-holds Inv-loop μ-loop
 loop-holds c =
     let s = c .before .before .before in
-    let b = climb-start (c .before .before .before .args .rows .now) (c .before .before .before .args .edges .now) (c .before .before .before .args .n) (c .before .before .before .pre .0 .0) (c .before .before .before .args .a) (c .before .before .before .pre .0 .1) (s .args .w .now) (omega (arith, s .pre .1 .0)) (s .pre .1 .2) (s .pre .1 .1) in
+    let b = climb-start (s .args .rows .now) (s .args .edges .now) (s .args .n) (s .pre .0 .0) (s .args .a) (s .pre .0 .1) (s .args .w .now) (omega (arith, s .pre .1 .0)) (s .pre .1 .2) (s .pre .1 .1) in
     (omega arith, omega (arith, s .pre .0 .1), omega arith, refl, simp length-set (s .pre .1 .0), b .0, b .1)
 
 mul-r : tie.Need-mul-r Inv-loop μ-loop
@@ -56,21 +56,23 @@ slice-read-r c = search needs
 
 expand-requires : tie.Need-expand-requires Inv-loop μ-loop
 expand-requires c κs =
-    let s = c .before .before .before .before .before .before .before in
-    let l = c .before .before .before .loop in
-    let a = climb-asks (c .before .before .before .before .before .before .before .args .rows .now) (c .before .before .before .before .before .before .before .args .edges .now) (c .before .before .before .before .before .before .before .args .n) (c .before .before .before .before .before .before .before .pre .0 .0) (c .before .before .before .before .before .before .before .args .a) (c .before .before .before .before .before .before .before .pre .0 .1) (c .before .before .before .loop .q) (c .before .before .before .loop .len) (c .before .before .before .loop .m) (c .before .before .before .loop .w) (c .before .before .before .loop .inv .1) (c .before .before .before .loop .inv .4) (c .before .before .before .loop .inv .6) (c .before .before .loop-test .taken) in
+    let s = c .before .before .before .before .before .before .before .before in
+    let l = c .before .before .before .before .loop in
+    let a = climb-asks (s .args .rows .now) (s .args .edges .now) (s .args .n) (s .pre .0 .0) (s .args .a) (s .pre .0 .1) (l .q) (l .t .met) (l .t .bare) (l .m) (l .w) (l .inv .1) (l .inv .4) (l .inv .6) (c .before .before .if1 .taken) in
     ((s .pre .0 .0, a .0, l .inv .5), (l .inv .1, a .1, l .inv .6 .held))
 
 parent-count-requires : tie.Need-parent-count-requires Inv-loop μ-loop
 parent-count-requires c κs =
-    let s = c .before .before .before .before .before .before .before .before .before .before in
-    let a = climb-asks (c .before .before .before .before .before .before .before .before .before .before .args .rows .now) (c .before .before .before .before .before .before .before .before .before .before .args .edges .now) (c .before .before .before .before .before .before .before .before .before .before .args .n) (c .before .before .before .before .before .before .before .before .before .before .pre .0 .0) (c .before .before .before .before .before .before .before .before .before .before .args .a) (c .before .before .before .before .before .before .before .before .before .before .pre .0 .1) (c .before .before .before .before .before .before .loop .q) (c .before .before .before .before .before .before .loop .len) (c .before .before .before .before .before .before .loop .m) (c .before .before .before .before .before .before .loop .w) (c .before .before .before .before .before .before .loop .inv .1) (c .before .before .before .before .before .before .loop .inv .4) (c .before .before .before .before .before .before .loop .inv .6) (c .before .before .before .before .before .loop-test .taken) in
+    let s = c .before .before .before .before .before .before .before .before .before .before .before in
+    let l = c .before .before .before .before .before .before .before .loop in
+    let a = climb-asks (s .args .rows .now) (s .args .edges .now) (s .args .n) (s .pre .0 .0) (s .args .a) (s .pre .0 .1) (l .q) (l .t .met) (l .t .bare) (l .m) (l .w) (l .inv .1) (l .inv .4) (l .inv .6) (c .before .before .before .before .before .if1 .taken) in
     omega (arith, a .0, s .pre .0 .0 .size)
 
 add-m : tie.Need-add-m Inv-loop μ-loop
 add-m c =
-    let s = c .before .before .before .before .before .before .before .before .before .before .before in
-    let a = climb-asks (c .before .before .before .before .before .before .before .before .before .before .before .args .rows .now) (c .before .before .before .before .before .before .before .before .before .before .before .args .edges .now) (c .before .before .before .before .before .before .before .before .before .before .before .args .n) (c .before .before .before .before .before .before .before .before .before .before .before .pre .0 .0) (c .before .before .before .before .before .before .before .before .before .before .before .args .a) (c .before .before .before .before .before .before .before .before .before .before .before .pre .0 .1) (c .before .before .before .before .before .before .before .loop .q) (c .before .before .before .before .before .before .before .loop .len) (c .before .before .before .before .before .before .before .loop .m) (c .before .before .before .before .before .before .before .loop .w) (c .before .before .before .before .before .before .before .loop .inv .1) (c .before .before .before .before .before .before .before .loop .inv .4) (c .before .before .before .before .before .before .before .loop .inv .6) (c .before .before .before .before .before .before .loop-test .taken) in
+    let s = c .before .before .before .before .before .before .before .before .before .before .before .before in
+    let l = c .before .before .before .before .before .before .before .before .loop in
+    let a = climb-asks (s .args .rows .now) (s .args .edges .now) (s .args .n) (s .pre .0 .0) (s .args .a) (s .pre .0 .1) (l .q) (l .t .met) (l .t .bare) (l .m) (l .w) (l .inv .1) (l .inv .4) (l .inv .6) (c .before .before .before .before .before .before .if1 .taken) in
     omega (arith, a .2, c .parent-count .ensures)
 
 add-q : tie.Need-add-q Inv-loop μ-loop
@@ -81,18 +83,21 @@ loop-less c = search needs
 
 loop-again : tie.Need-loop-again Inv-loop μ-loop
 loop-again c =
-    let s = c .before .before .before .before .before .before .before .before .before .before .before in
-    let l = c .before .before .before .before .before .before .before .loop in
+    let s = c .before .before .before .before .before .before .before .before .before .before .before .before in
+    let l = c .before .before .before .before .before .before .before .before .loop in
     let x = c .before .before .before .expand in
-    let k = x .kept .1 .1 .1 .1 .1 .1 .0 in
-    let e = climb-next (c .before .before .before .before .before .before .before .before .before .before .before .args .rows .now) (c .before .before .before .before .before .before .before .before .before .before .before .args .edges .now) (c .before .before .before .before .before .before .before .before .before .before .before .args .n) (c .before .before .before .before .before .before .before .before .before .before .before .pre .0 .0) (c .before .before .before .before .before .before .before .before .before .before .before .args .a) (c .before .before .before .before .before .before .before .before .before .before .before .pre .0 .1) (c .before .before .before .before .before .before .before .loop .q) (c .before .before .before .before .before .before .before .loop .len) (c .before .before .before .before .before .before .before .loop .m) (c .before .before .before .before .before .before .before .loop .w) (c .before .before .before .before .before .before .before .loop .inv .1) (c .before .before .before .before .before .before .before .loop .inv .4) (c .before .before .before .before .before .before .before .loop .inv .6) (c .before .before .before .before .before .before .loop-test .taken) _ (c .parent-count .result) _ k (c .parent-count .ensures) (l .inv .5) (x .ensures) in
+    let k = x .kept .1 .1 .1 .1 .1 .0 in
+    let e = climb-next (s .args .rows .now) (s .args .edges .now) (s .args .n) (s .pre .0 .0) (s .args .a) (s .pre .0 .1) (l .q) (l .t .met) (l .t .bare) (l .m) (l .w) (l .inv .1) (l .inv .4) (l .inv .6) (c .before .before .before .before .before .before .if1 .taken) (x .result .met) (x .result .bare) (c .parent-count .result) _ k (c .parent-count .ensures) (l .inv .5) (x .ensures) in
     (e .0, x .ensures .1, e .1, k ∙ l .inv .3, omega (arith, k, l .inv .4), e .2, e .3)
 
 same-length : tie.Need-same-length Inv-loop μ-loop
-same-length c = c .before .loop .inv .3 ∙ simp length-set
+same-length c = c .before .before .loop .inv .3 ∙ simp length-set
 
 returns : tie.Need-returns Inv-loop μ-loop
-returns c = climb-end (c .before .before .before .before .before .args .rows .now) (c .before .before .before .before .before .args .edges .now) (c .before .before .before .before .before .args .n) (c .before .before .before .before .before .pre .0 .0) (c .before .before .before .before .before .args .a) (c .before .before .before .before .before .pre .0 .1) (c .before .loop .q) (c .before .loop .len) (c .before .loop .m) (c .before .loop .w) (c .before .loop .inv .1) (c .before .loop .inv .4) (c .before .loop .inv .6) (c .loop-test .left) (c .before .loop .inv .2)
+returns c =
+    let s = c .before .before .before .before .before .before in
+    let l = c .before .before .loop in
+    climb-end (s .args .rows .now) (s .args .edges .now) (s .args .n) (s .pre .0 .0) (s .args .a) (s .pre .0 .1) (l .q) (l .t .met) (l .t .bare) (l .m) (l .w) (l .inv .1) (l .inv .4) (l .inv .6) (c .if1 .left) (l .inv .2)
 
 pub climb-spec : {M : Type 1} → statement M
 climb-spec =

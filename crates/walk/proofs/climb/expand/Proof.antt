@@ -11,7 +11,7 @@ use Rattle.walk.proofs.climb.expand.Tie as tie
 
 -- the stretch of the row lies in the table
 end : (c : tie.After-parent-count) → getD (c .before .before .before .before .before .args .w .now) (c .before .before .before .before .before .args .r) 0 + c .parent-count .result ≤ length (c .before .before .before .before .before .args .edges .now)
-end c = stretch-end (c .before .before .before .before .before .args .rows .now) (c .before .before .before .before .before .args .edges .now) (c .before .before .before .before .before .args .n) (c .before .before .before .before .before .pre .0 .0) (c .before .before .before .before .before .args .r) (c .before .before .before .before .before .pre .0 .1) (c .before .before .before .before .before .args .w .now) (c .before .before .before .before .before .pre .0 .2) (c .parent-count .result) (c .parent-count .ensures)
+end c = let s = c .before .before .before .before .before in stretch-end (s .args .rows .now) (s .args .edges .now) (s .args .n) (s .pre .0 .0) (s .args .r) (s .pre .0 .1) (s .args .w .now) (s .pre .0 .2) (c .parent-count .result) (c .parent-count .ensures)
 
 mul-from : tie.Need-mul-from
 mul-from c = search needs
@@ -40,7 +40,8 @@ part-meet-parents-end c = end c
 meet-parents-requires : tie.Need-meet-parents-requires
 meet-parents-requires c κs =
     let s = c .before .before .before .before .before .before .before in
-    ((omega (arith, s .pre .0 .0 .size), s .pre .0 .0 .up), (s .pre .1 .0, omega (arith, stretch-size (c .before .before .before .before .before .before .before .args .rows .now) (c .before .before .before .before .before .before .before .args .edges .now) (c .before .before .before .before .before .before .before .args .n) (c .before .before .before .before .before .before .before .pre .0 .0) (c .before .before .before .before .before .before .before .args .r) (c .before .before .before .before .before .before .before .pre .0 .1) (c .before .before .before .before .before .before .before .args .w .now) (c .before .before .before .before .before .before .before .pre .0 .2) (c .before .before .parent-count .result) (c .before .before .parent-count .ensures)), s .pre .1 .2))
+    let k = c .before .before .parent-count in
+    ((omega (arith, s .pre .0 .0 .size), s .pre .0 .0 .up), (s .pre .1 .0, omega (arith, s .pre .1 .1, stretch-size (s .args .rows .now) (s .args .edges .now) (s .args .n) (s .pre .0 .0) (s .args .r) (s .pre .0 .1) (s .args .w .now) (s .pre .0 .2) (k .result) (k .ensures)), s .pre .1 .2))
 
 same-length : tie.Need-same-length
 same-length c = search needs
@@ -48,7 +49,9 @@ same-length c = search needs
 returns : tie.Need-returns
 returns c =
     let s = c .before .before .before .before .before .before .before .before .before .before in
-    expanded (c .before .before .before .before .before .before .before .before .before .before .args .rows .now) (c .before .before .before .before .before .before .before .before .before .before .args .edges .now) (c .before .before .before .before .before .before .before .before .before .before .args .n) (c .before .before .before .before .before .before .before .before .before .before .pre .0 .0) (c .before .before .before .before .before .before .before .before .before .before .args .r) (c .before .before .before .before .before .before .before .before .before .before .pre .0 .1) (c .before .before .before .before .before .before .before .before .before .before .args .w .now) (c .before .before .before .before .before .before .before .before .before .before .pre .0 .2) (c .before .before .before .before .before .parent-count .result) (c .before .before .before .before .before .parent-count .ensures) (s .args .len) (s .args .m) _ _ _ refl (c .before .before .meet-parents .ensures)
+    let k = c .before .before .before .before .before .parent-count in
+    let m = c .before .before .meet-parents in
+    expanded (s .args .rows .now) (s .args .edges .now) (s .args .n) (s .pre .0 .0) (s .args .r) (s .pre .0 .1) (s .args .w .now) (s .pre .0 .2) (k .result) (k .ensures) (s .args .t .met) (s .args .t .bare) (m .result .met) (m .result .bare) _ _ refl (m .ensures)
 
 pub expand-spec : {M : Type 1} → statement M
 expand-spec =

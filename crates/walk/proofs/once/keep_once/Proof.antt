@@ -43,7 +43,7 @@ same-length c = search needs
 returns : tie.Need-returns Inv-loop μ-loop
 returns c =
     let l = c .before .loop in
-    (kept-end (c .before .before .before .args .w .now) (c .before .before .before .args .a) (c .before .before .before .args .m) (c .before .before .before .args .b) (c .before .before .before .pre .0) (c .before .before .before .pre .1) (c .before .before .before .pre .2) (l .i) (l .k) (l .w) (c .loop-test .left) (l .inv .4), search needs)
+    (kept-end (c .before .before .before .args .w .now) (c .before .before .before .args .a) (c .before .before .before .args .m) (c .before .before .before .args .b) (c .before .before .before .pre .0) (c .before .before .before .pre .1) (c .before .before .before .pre .2) (l .i) (l .k) (l .w) (c .loop-test .left) (l .inv .4), search needs, l .inv .3)
 
 pub keep-once-spec : {M : Type 1} → statement M
 keep-once-spec =

@@ -1,7 +1,9 @@
 -- `list_once` meets its contract: sorted rows rise, and they have the same ids.
 -- Assumes nothing.
+use Prim.Native.Nat.{_+_, _*_, _≤_}
 use native.Mathlib.Omega.{arith}
-use Rattle.walk.proofs.Sorting.{sorted-length, sorted-rises, sorted-kept}
+use lib.ListN.{length}
+use Rattle.walk.proofs.Sorting.{sorted-length, sorted-front, sorted-rises, sorted-kept}
 use borrow.Author.Needs.{needs}
 use Rattle.walk.proofs.once.list_once.Statement.{statement}
 use Rattle.walk.proofs.once.list_once.Tie as tie
@@ -28,15 +30,25 @@ sort3-requires : tie.Need-sort3-requires
 sort3-requires c κs = search needs
 
 keep-once-requires : tie.Need-keep-once-requires
-keep-once-requires c κs = (search needs, omega (arith, sorted-length (c .before .before .before .before .before .before .args .w .now) (c .before .before .before .before .before .before .args .a) (c .before .before .before .before .before .before .args .m) (c .before .before .before .sort3 .last .0) (omega (arith, c .before .before .before .before .before .before .pre .0)) (c .before .before .before .sort3 .kept .0) (c .before .before .before .sort3 .ensures)), sorted-rises (c .before .before .before .before .before .before .args .w .now) (c .before .before .before .before .before .before .args .a) (c .before .before .before .before .before .before .args .m) (c .before .before .before .sort3 .last .0) (omega (arith, c .before .before .before .before .before .before .pre .0)) (c .before .before .before .sort3 .kept .0) (c .before .before .before .sort3 .ensures))
+keep-once-requires c κs =
+    let s = c .before .before .before .before .before .before in
+    let k = c .before .before .before .sort3 in
+    let h : s .args .a + 3 * s .args .m ≤ length (s .args .w .now) = omega (arith, s .pre .0, s .pre .1) in
+    (s .pre .0, omega (arith, s .pre .1, sorted-length (s .args .w .now) (s .args .a) (s .args .m) (k .last .0) h (k .kept .0) (k .ensures)), sorted-rises (s .args .w .now) (s .args .a) (s .args .m) (k .last .0) h (k .kept .0) (k .ensures))
 
 same-length : tie.Need-same-length
 same-length c = search needs
 
 returns : tie.Need-returns
 returns c =
-    let k = c .before .before .keep-once in
-    (sorted-kept (c .before .before .before .before .before .before .before .before .before .args .w .now) (c .before .before .before .before .before .before .before .before .before .args .a) (c .before .before .before .before .before .before .before .before .before .args .m) (c .before .before .before .before .before .before .sort3 .last .0) (omega (arith, c .before .before .before .before .before .before .before .before .before .pre .0)) (c .before .before .before .before .before .before .sort3 .kept .0) (c .before .before .before .before .before .before .sort3 .ensures) _ (k .ensures .0), k .ensures .1)
+    let s = c .before .before .before .before .before .before .before .before .before in
+    let k = c .before .before .before .before .before .before .sort3 in
+    let o = c .before .before .keep-once in
+    let h : s .args .a + 3 * s .args .m ≤ length (s .args .w .now) = omega (arith, s .pre .0, s .pre .1) in (
+      sorted-kept (s .args .w .now) (s .args .a) (s .args .m) (k .last .0) h (k .kept .0) (k .ensures) _ (o .ensures .0),
+      o .ensures .1,
+      sorted-front (s .args .w .now) (s .args .a) (s .args .m) (k .last .0) h (k .kept .0) (k .ensures) _ (s .args .b) (omega (arith, s .pre .0)) (o .ensures .2),
+    )
 
 pub list-once-spec : {M : Type 1} → statement M
 list-once-spec =
