@@ -1,0 +1,4 @@
+pub mod CommaLaws
+pub mod Digits
+pub mod Examples
+pub mod Writing

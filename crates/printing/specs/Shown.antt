@@ -1,0 +1,132 @@
+-- Document 01, the listing program's output: each answer as the bytes of its line.
+-- "Output: `A` epoch, order, added, removed, splits, merges, reason letter (S, M, R, U), handover; `R` number, values, 51's list; `T` stale;
+-- `B` incomplete, remote; `E`; `M` remote; `X` and an unreadable line's number, from 1".
+-- Assumes nothing.
+use Prim.Native.Nat.{ℕ, zero, suc, _+_, _*_, _-_, _/_, _%_}
+use Prim.Native.Char.{code}
+use mathlib.Core.Bool.{Bool, true, false, cond, _&&_}
+use mathlib.Core.List.{List, [], _∷_, _++_, map}
+use lib.Dec.{eqb, ltb, leb}
+use lib.ListN.{take}
+use Rattle.answers.specs.declared.Refusal.{Refusal}
+use Rattle.answers.specs.declared.DagChangeReason.{DagChangeReason}
+use Rattle.answers.specs.declared.DagChangeReason.the-variants.{Split, Merge, SegmentRemoved, Unknown}
+use Rattle.answers.specs.declared.Eligibility.{Eligibility}
+use Rattle.answers.specs.declared.Eligibility.the-variants as E
+use Rattle.answers.specs.declared.Updated.{Updated}
+use Rattle.answers.specs.declared.Updated.the-variants as U
+use Rattle.answers.specs.Kinds.{kindOf}
+
+-- ---- numbers
+
+-- the ASCII code of a digit
+abbrev pub glyph : ℕ → ℕ
+glyph d = 48 + d
+
+-- the digits of n, at most k of them, before those that stand already
+abbrev pub digitsBefore : ℕ → ℕ → List ℕ → List ℕ
+digitsBefore zero n ds = ds
+digitsBefore (suc k) n ds = cond (ltb n 10) (glyph n ∷ ds) (digitsBefore k (n / 10) (glyph (n % 10) ∷ ds))
+
+-- a word in decimal, without leading zeros: 64 bits have at most 20 digits
+unfoldable pub decimal : ℕ → List ℕ
+decimal n = digitsBefore 20 n []
+
+-- "signed code": a word of 32 bits from 2 ^ 31 on stands for the number below zero that has these 32 bits
+abbrev pub belowZero : ℕ → Bool
+belowZero w = leb 2147483648 w && ltb w 4294967296
+
+unfoldable pub signed : ℕ → List ℕ
+signed w = cond (belowZero w) (code "-" ∷ decimal (4294967296 - w)) (decimal w)
+
+-- ---- comma lists; "`-` for absent or none"
+
+abbrev pub commasAfter : List (List ℕ) → List ℕ
+commasAfter [] = []
+commasAfter (t ∷ ts) = code "," ∷ (t ++ commasAfter ts)
+
+unfoldable pub commas : List (List ℕ) → List ℕ
+commas [] = code "-" ∷ []
+commas (t ∷ ts) = t ++ commasAfter ts
+
+-- the first n numbers of a lent list, or as many as it has
+unfoldable pub listed : ℕ → List ℕ → List ℕ
+listed n l = commas (take n (map decimal l))
+
+-- the words of a lent list two by two, with a mark between the two; a last word without a second is none
+abbrev pub pairTexts : ℕ → List ℕ → List (List ℕ)
+pairTexts mark (x ∷ y ∷ l) = (decimal x ++ (mark ∷ decimal y)) ∷ pairTexts mark l
+pairTexts mark (x ∷ []) = []
+pairTexts mark [] = []
+
+-- the first n pairs of a lent list, or as many as it has
+unfoldable pub pairsListed : ℕ → ℕ → List ℕ → List ℕ
+pairsListed mark n l = commas (take n (pairTexts mark l))
+
+-- a split pair is (parent, child)
+abbrev pub splitsListed : ℕ → List ℕ → List ℕ
+splitsListed n l = pairsListed (code ">") n l
+
+-- a merge pair is (child, parent): "A merge pair prints as child<parent"
+abbrev pub mergesListed : ℕ → List ℕ → List ℕ
+mergesListed n l = pairsListed (code "<") n l
+
+-- ---- lines: a letter, each field after a space, and the line's end
+
+abbrev pub spaced : List (List ℕ) → List ℕ
+spaced [] = []
+spaced (t ∷ ts) = code " " ∷ (t ++ spaced ts)
+
+abbrev pub line : ℕ → List (List ℕ) → List ℕ
+line letter fields = letter ∷ (spaced fields ++ (10 ∷ []))
+
+-- "Broker (signed code, ..)": 41's first value
+abbrev pub firstText : Refusal → List ℕ
+firstText r = cond (eqb (r .number) 41) (signed (r .a)) (decimal (r .a))
+
+-- the values that the number carries, by the fixed table
+abbrev pub valueTexts : Refusal → List (List ℕ)
+valueTexts r = take (kindOf (r .number) .values) (firstText r ∷ decimal (r .b) ∷ decimal (r .c) ∷ decimal (r .d) ∷ [])
+
+-- "`R` number, values": the number, its values, and what else the line has
+abbrev pub refused : Refusal → List (List ℕ) → List ℕ
+refused r more = line (code "R") (decimal (r .number) ∷ (valueTexts r ++ more))
+
+unfoldable pub shownRefusal : Refusal → List ℕ
+shownRefusal r = refused r []
+
+-- "reason letter (S, M, R, U)"
+abbrev pub letterOf : DagChangeReason → ℕ
+letterOf Split = code "S"
+letterOf Merge = code "M"
+letterOf SegmentRemoved = code "R"
+letterOf Unknown = code "U"
+
+-- An update's answer, with the number of rows that its session holds then and the lists that it was lent.
+unfoldable pub shownUpdated : Updated → ℕ → List ℕ → List ℕ → List ℕ → List ℕ → List ℕ → List ℕ
+shownUpdated (U.Refused r) rows order added removed splits merges = shownRefusal r
+shownUpdated U.Stale rows order added removed splits merges = line (code "T") []
+shownUpdated (U.Accepted d) rows order added removed splits merges =
+    line (code "A")
+    (decimal (d .epoch)
+    ∷ listed rows order
+    ∷ listed (d .added) added
+    ∷ listed (d .removed) removed
+    ∷ splitsListed (d .splits) splits
+    ∷ mergesListed (d .merges) merges
+    ∷ (letterOf (d .reason) ∷ [])
+    ∷ decimal (d .handover)
+    ∷ [])
+
+-- An ordering query's answer, with the two lists that it was lent. 51's list stands in the first.
+unfoldable pub shownOrdering : Eligibility → List ℕ → List ℕ → List ℕ
+shownOrdering (E.Refused r) first second = shownRefusal r
+shownOrdering (E.Unprovable id n) first second =
+    refused (record { number = 51; a = id; b = 0; c = 0; d = 0 }) (listed n first ∷ [])
+shownOrdering (E.Blocked n m) first second = line (code "B") (listed n first ∷ listed m second ∷ [])
+shownOrdering E.Eligible first second = line (code "E") []
+shownOrdering (E.BrokerManaged m) first second = line (code "M") (listed m second ∷ [])
+
+-- a line of the input that can't be read, by its number
+unfoldable pub shownUnreadable : ℕ → List ℕ
+shownUnreadable n = line (code "X") (decimal n ∷ [])

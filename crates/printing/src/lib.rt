@@ -1,0 +1,4 @@
+// The listing program's output: each answer as the bytes of its line, written into an area that the caller lends.
+pub mod area;
+pub mod commas;
+pub mod numbers;
