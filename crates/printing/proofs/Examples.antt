@@ -8,7 +8,7 @@ use Rattle.answers.specs.declared.DagDelta.{DagDelta}
 use Rattle.answers.specs.declared.DagChangeReason.the-variants.{Split, Merge, Unknown}
 use Rattle.answers.specs.declared.Eligibility.the-variants as E
 use Rattle.answers.specs.declared.Updated.the-variants as U
-use Rattle.printing.specs.Shown.{decimal, signed, commas, listed, pairsListed, shownRefusal, shownUpdated, shownOrdering, shownUnreadable}
+use Rattle.printing.specs.Shown.{decimal, signed, commas, listed, pairsListed, firstText, valueTexts, shownRefusal, shownAccepted, shownUpdated, shownUnprovable, shownBlocked, shownManaged, shownOrdering, shownUnreadable}
 use Rattle.printing.specs.Text.{bytesOf}
 
 abbrev refusal : ℕ → ℕ → ℕ → ℕ → ℕ → Refusal
@@ -26,7 +26,7 @@ first-update :
     (9 ∷ 9 ∷ [])
     (9 ∷ 9 ∷ [])
     ≡ bytesOf "A 0 1 1 - - - U 65536\n"
-unfolding decimal commas listed pairsListed shownUpdated
+unfolding decimal commas listed pairsListed shownAccepted
 first-update = refl
 
 second-update :
@@ -39,19 +39,18 @@ second-update :
     (1 ∷ 2 ∷ 1 ∷ 3 ∷ 9 ∷ 9 ∷ [])
     (9 ∷ 9 ∷ [])
     ≡ bytesOf "A 3 1,2,3 2,3 - 1>2,1>3 - S 65536\n"
-unfolding decimal commas listed pairsListed shownUpdated
+unfolding decimal commas listed pairsListed shownAccepted
 second-update = refl
 
 blocked : shownOrdering (E.Blocked 1 0) (1 ∷ 9 ∷ []) (9 ∷ []) ≡ bytesOf "B 1 -\n"
-unfolding decimal commas listed shownOrdering
+unfolding decimal commas listed shownBlocked
 blocked = refl
 
 eligible : shownOrdering E.Eligible (9 ∷ []) (9 ∷ []) ≡ bytesOf "E\n"
-unfolding shownOrdering
 eligible = refl
 
 broker-managed : shownOrdering (E.BrokerManaged 1) (9 ∷ []) (1 ∷ 9 ∷ []) ≡ bytesOf "M 1\n"
-unfolding decimal commas listed shownOrdering
+unfolding decimal commas listed shownManaged
 broker-managed = refl
 
 -- ---- merge pairs, the other reasons and answers
@@ -66,39 +65,38 @@ merged :
     []
     (6 ∷ 2 ∷ 6 ∷ 4 ∷ [])
     ≡ bytesOf "A 5 6 6 9 - 6<2,6<4 M 10\n"
-unfolding decimal commas listed pairsListed shownUpdated
+unfolding decimal commas listed pairsListed shownAccepted
 merged = refl
 
 stale : shownUpdated U.Stale 0 [] [] [] [] [] ≡ bytesOf "T\n"
-unfolding shownUpdated
 stale = refl
 
 unprovable : shownOrdering (E.Unprovable 3 2) (1 ∷ 2 ∷ 9 ∷ []) [] ≡ bytesOf "R 51 3 1,2\n"
-unfolding decimal commas listed shownOrdering
+unfolding decimal commas listed firstText valueTexts shownUnprovable
 unprovable = refl
 
 broker : shownRefusal (refusal 41 4294967291 0 0 0) ≡ bytesOf "R 41 -5 0\n"
-unfolding decimal signed shownRefusal
+unfolding decimal signed firstText valueTexts shownRefusal
 broker = refl
 
 lowest-code : shownRefusal (refusal 41 2147483648 7 0 0) ≡ bytesOf "R 41 -2147483648 7\n"
-unfolding decimal signed shownRefusal
+unfolding decimal signed firstText valueTexts shownRefusal
 lowest-code = refl
 
 highest-code : shownRefusal (refusal 41 2147483647 7 0 0) ≡ bytesOf "R 41 2147483647 7\n"
-unfolding decimal signed shownRefusal
+unfolding decimal signed firstText valueTexts shownRefusal
 highest-code = refl
 
 bad-table : shownRefusal (refusal 1 0 0 0 0) ≡ bytesOf "R 1\n"
-unfolding decimal shownRefusal
+unfolding decimal firstText valueTexts shownRefusal
 bad-table = refl
 
 discontinuity : shownRefusal (refusal 34 65535 0 2 0) ≡ bytesOf "R 34 65535 0 2\n"
-unfolding decimal shownRefusal
+unfolding decimal firstText valueTexts shownRefusal
 discontinuity = refl
 
 seal-epoch : shownRefusal (refusal 18 1 2 3 18446744073709551615) ≡ bytesOf "R 18 1 2 3 18446744073709551615\n"
-unfolding decimal shownRefusal
+unfolding decimal firstText valueTexts shownRefusal
 seal-epoch = refl
 
 unreadable : shownUnreadable 12 ≡ bytesOf "X 12\n"

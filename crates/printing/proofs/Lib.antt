@@ -1,4 +1,5 @@
 pub mod CommaLaws
 pub mod Digits
 pub mod Examples
+pub mod LineLaws
 pub mod Writing

@@ -11,6 +11,7 @@ use lib.ListN.{take}
 use Rattle.answers.specs.declared.Refusal.{Refusal}
 use Rattle.answers.specs.declared.DagChangeReason.{DagChangeReason}
 use Rattle.answers.specs.declared.DagChangeReason.the-variants.{Split, Merge, SegmentRemoved, Unknown}
+use Rattle.answers.specs.declared.DagDelta.{DagDelta}
 use Rattle.answers.specs.declared.Eligibility.{Eligibility}
 use Rattle.answers.specs.declared.Eligibility.the-variants as E
 use Rattle.answers.specs.declared.Updated.{Updated}
@@ -81,11 +82,11 @@ abbrev pub line : ℕ → List (List ℕ) → List ℕ
 line letter fields = letter ∷ (spaced fields ++ (10 ∷ []))
 
 -- "Broker (signed code, ..)": 41's first value
-abbrev pub firstText : Refusal → List ℕ
+unfoldable pub firstText : Refusal → List ℕ
 firstText r = cond (eqb (r .number) 41) (signed (r .a)) (decimal (r .a))
 
 -- the values that the number carries, by the fixed table
-abbrev pub valueTexts : Refusal → List (List ℕ)
+unfoldable pub valueTexts : Refusal → List (List ℕ)
 valueTexts r = take (kindOf (r .number) .values) (firstText r ∷ decimal (r .b) ∷ decimal (r .c) ∷ decimal (r .d) ∷ [])
 
 -- "`R` number, values": the number, its values, and what else the line has
@@ -102,11 +103,8 @@ letterOf Merge = code "M"
 letterOf SegmentRemoved = code "R"
 letterOf Unknown = code "U"
 
--- An update's answer, with the number of rows that its session holds then and the lists that it was lent.
-unfoldable pub shownUpdated : Updated → ℕ → List ℕ → List ℕ → List ℕ → List ℕ → List ℕ → List ℕ
-shownUpdated (U.Refused r) rows order added removed splits merges = shownRefusal r
-shownUpdated U.Stale rows order added removed splits merges = line (code "T") []
-shownUpdated (U.Accepted d) rows order added removed splits merges =
+unfoldable pub shownAccepted : DagDelta → ℕ → List ℕ → List ℕ → List ℕ → List ℕ → List ℕ → List ℕ
+shownAccepted d rows order added removed splits merges =
     line (code "A")
     (decimal (d .epoch)
     ∷ listed rows order
@@ -118,14 +116,29 @@ shownUpdated (U.Accepted d) rows order added removed splits merges =
     ∷ decimal (d .handover)
     ∷ [])
 
+-- An update's answer, with the number of rows that its session holds then and the lists that it was lent.
+abbrev pub shownUpdated : Updated → ℕ → List ℕ → List ℕ → List ℕ → List ℕ → List ℕ → List ℕ
+shownUpdated (U.Refused r) rows order added removed splits merges = shownRefusal r
+shownUpdated U.Stale rows order added removed splits merges = line (code "T") []
+shownUpdated (U.Accepted d) rows order added removed splits merges = shownAccepted d rows order added removed splits merges
+
+-- 51: the segment and the list
+unfoldable pub shownUnprovable : ℕ → ℕ → List ℕ → List ℕ
+shownUnprovable id n list = refused (record { number = 51; a = id; b = 0; c = 0; d = 0 }) (listed n list ∷ [])
+
+unfoldable pub shownBlocked : ℕ → List ℕ → ℕ → List ℕ → List ℕ
+shownBlocked n incomplete m remote = line (code "B") (listed n incomplete ∷ listed m remote ∷ [])
+
+unfoldable pub shownManaged : ℕ → List ℕ → List ℕ
+shownManaged m remote = line (code "M") (listed m remote ∷ [])
+
 -- An ordering query's answer, with the two lists that it was lent. 51's list stands in the first.
-unfoldable pub shownOrdering : Eligibility → List ℕ → List ℕ → List ℕ
+abbrev pub shownOrdering : Eligibility → List ℕ → List ℕ → List ℕ
 shownOrdering (E.Refused r) first second = shownRefusal r
-shownOrdering (E.Unprovable id n) first second =
-    refused (record { number = 51; a = id; b = 0; c = 0; d = 0 }) (listed n first ∷ [])
-shownOrdering (E.Blocked n m) first second = line (code "B") (listed n first ∷ listed m second ∷ [])
+shownOrdering (E.Unprovable id n) first second = shownUnprovable id n first
+shownOrdering (E.Blocked n m) first second = shownBlocked n first m second
 shownOrdering E.Eligible first second = line (code "E") []
-shownOrdering (E.BrokerManaged m) first second = line (code "M") (listed m second ∷ [])
+shownOrdering (E.BrokerManaged m) first second = shownManaged m second
 
 -- a line of the input that can't be read, by its number
 unfoldable pub shownUnreadable : ℕ → List ℕ

@@ -30,7 +30,10 @@ same-length c = search needs
 
 returns : tie.Need-returns Inv-loop μ-loop
 unfolding listed
-returns c = said (commas-none (map decimal (c .before .before .before .before .before .before .before .before .args .list .now)) (c .before .before .before .before .before .before .before .before .args .count) (c .before .before .before .before .before .least .result) (omega (arith, numbers-length (c .before .before .before .before .before .before .before .before .args .list .now), c .before .before .before .before .before .least .ensures)) (search needs)) (c .before .before .put-byte .ensures)
+returns c =
+    said
+    (commas-none (map decimal (c .before .before .before .before .before .before .before .before .args .list .now)) (c .before .before .before .before .before .before .before .before .args .count) (c .before .before .before .before .before .least .result) (omega (arith, numbers-length (c .before .before .before .before .before .before .before .before .args .list .now), c .before .before .before .before .before .least .ensures)) (search needs))
+    (c .before .before .put-byte .ensures)
 
 shared-slice-read-put-number : tie.Need-shared-slice-read-put-number Inv-loop μ-loop
 shared-slice-read-put-number c = search needs
@@ -39,7 +42,12 @@ put-number-requires : tie.Need-put-number-requires Inv-loop μ-loop
 put-number-requires c κs = search needs
 
 loop-holds : tie.Need-loop-holds Inv-loop μ-loop
-loop-holds c = (search needs, search needs, refl, begun (map decimal (c .before .before .before .before .before .before .before .before .before .args .list .now)) (c .before .before .put-number .ensures))
+loop-holds c = (
+  search needs,
+  search needs,
+  refl,
+  begun (map decimal (c .before .before .before .before .before .before .before .before .before .args .list .now)) (c .before .before .put-number .ensures),
+)
 
 put-byte-requires-2 : tie.Need-put-byte-requires-2 Inv-loop μ-loop
 put-byte-requires-2 c κs = search needs
@@ -60,14 +68,23 @@ loop-less : tie.Need-loop-less Inv-loop μ-loop
 loop-less c = search needs
 
 loop-again : tie.Need-loop-again Inv-loop μ-loop
-loop-again c = (search needs, search needs, search needs, next-text (map decimal (c .before .before .before .before .before .before .before .before .before .before .before .before .before .before .before .before .before .before .before .before .args .list .now)) (c .before .before .before .before .before .before .before .before .before .before .loop .i) (decimal 0) (omega arith) (omega (arith, numbers-length (c .before .before .before .before .before .before .before .before .before .before .before .before .before .before .before .before .before .before .before .before .args .list .now), c .before .before .before .before .before .before .before .before .before .before .before .before .before .before .before .before .before .least .ensures)) (number-at (c .before .before .before .before .before .before .before .before .before .before .before .before .before .before .before .before .before .before .before .before .args .list .now) (c .before .before .before .before .before .before .before .before .before .before .loop .i)) (c .before .before .before .before .before .before .before .before .before .before .loop .inv .3) (c .before .before .before .before .before .before .before .put-byte2 .ensures) (c .before .before .put-number2 .ensures))
+loop-again c = (
+  search needs,
+  search needs,
+  search needs,
+  next-text (map decimal (c .before .before .before .before .before .before .before .before .before .before .before .before .before .before .before .before .before .before .before .before .args .list .now)) (c .before .before .before .before .before .before .before .before .before .before .loop .i) (decimal 0) (omega arith) (omega (arith, numbers-length (c .before .before .before .before .before .before .before .before .before .before .before .before .before .before .before .before .before .before .before .before .args .list .now), c .before .before .before .before .before .before .before .before .before .before .before .before .before .before .before .before .before .least .ensures)) (number-at (c .before .before .before .before .before .before .before .before .before .before .before .before .before .before .before .before .before .before .before .before .args .list .now) (c .before .before .before .before .before .before .before .before .before .before .loop .i)) (c .before .before .before .before .before .before .before .before .before .before .loop .inv .3) (c .before .before .before .before .before .before .before .put-byte2 .ensures) (c .before .before .put-number2 .ensures),
+)
 
 same-length-2 : tie.Need-same-length-2 Inv-loop μ-loop
 same-length-2 c = search needs
 
 returns-2 : tie.Need-returns-2 Inv-loop μ-loop
 unfolding listed
-returns-2 c = let l = c .before .before .before .before .before .before .before .before .before .before .before .args .list .now in said (commas-done (map decimal l) (c .before .before .before .before .before .before .before .before .before .before .before .args .count) (c .before .loop .i) (decimal 0) (omega (arith, numbers-length l, c .before .before .before .before .before .before .before .before .least .ensures)) (omega arith)) (on (said (sym (number-at l 0)) (c .before .before .before .before .put-number .ensures)) (c .before .loop .inv .3))
+returns-2 c =
+    let l = c .before .before .before .before .before .before .before .before .before .before .before .args .list .now in
+    said
+    (commas-done (map decimal l) (c .before .before .before .before .before .before .before .before .before .before .before .args .count) (c .before .loop .i) (decimal 0) (omega (arith, numbers-length l, c .before .before .before .before .before .before .before .before .least .ensures)) (omega arith))
+    (on (said (sym (number-at l 0)) (c .before .before .before .before .put-number .ensures)) (c .before .loop .inv .3))
 
 pub put-list-spec : {M : Type 1} → statement M
 put-list-spec =

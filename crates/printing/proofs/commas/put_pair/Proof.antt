@@ -18,7 +18,10 @@ same-length : tie.Need-same-length
 same-length c = search needs
 
 returns : tie.Need-returns
-returns c = on (c .before .before .before .before .before .before .before .before .before .before .put-number .ensures) (on (c .before .before .before .before .before .before .put-byte .ensures) (c .before .before .put-number2 .ensures))
+returns c =
+    on
+    (c .before .before .before .before .before .before .before .before .before .before .put-number .ensures)
+    (on (c .before .before .before .before .before .before .put-byte .ensures) (c .before .before .put-number2 .ensures))
 
 pub put-pair-spec : {M : Type 1} → statement M
 put-pair-spec =

@@ -30,7 +30,14 @@ same-length c = search needs
 
 returns : tie.Need-returns Inv-loop μ-loop
 unfolding pairsListed
-returns c = let a = c .before .before .before .before .before .before .before .before .args in let m = a .mark in let l = a .pairs .now in let ts = pairTexts m l in said (commas-none ts (a .count) (c .before .before .before .before .before .least .result) (omega (arith, pairs-length m l, c .before .before .before .before .before .least .ensures)) (search needs)) (c .before .before .put-byte .ensures)
+returns c =
+    let a = c .before .before .before .before .before .before .before .before .args in
+    let m = a .mark in
+    let l = a .pairs .now in
+    let ts = pairTexts m l in
+    said
+    (commas-none ts (a .count) (c .before .before .before .before .before .least .result) (omega (arith, pairs-length m l, c .before .before .before .before .before .least .ensures)) (search needs))
+    (c .before .before .put-byte .ensures)
 
 shared-slice-read-put-pair : tie.Need-shared-slice-read-put-pair Inv-loop μ-loop
 shared-slice-read-put-pair c = search needs
@@ -42,7 +49,12 @@ put-pair-requires : tie.Need-put-pair-requires Inv-loop μ-loop
 put-pair-requires c κs = search needs
 
 loop-holds : tie.Need-loop-holds Inv-loop μ-loop
-loop-holds c = (search needs, search needs, refl, begun (pairTexts (c .before .before .before .before .before .before .before .before .before .before .args .mark) (c .before .before .before .before .before .before .before .before .before .before .args .pairs .now)) (c .before .before .put-pair .ensures))
+loop-holds c = (
+  search needs,
+  search needs,
+  refl,
+  begun (pairTexts (c .before .before .before .before .before .before .before .before .before .before .args .mark) (c .before .before .before .before .before .before .before .before .before .before .args .pairs .now)) (c .before .before .put-pair .ensures),
+)
 
 put-byte-requires-2 : tie.Need-put-byte-requires-2 Inv-loop μ-loop
 put-byte-requires-2 c κs = search needs
@@ -78,14 +90,33 @@ loop-less : tie.Need-loop-less Inv-loop μ-loop
 loop-less c = search needs
 
 loop-again : tie.Need-loop-again Inv-loop μ-loop
-loop-again c = let a = c .before .before .before .before .before .before .before .before .before .before .before .before .before .before .before .before .before .before .before .before .before .before .args in let m = a .mark in let l = a .pairs .now in let ts = pairTexts m l in let i = c .before .before .before .before .before .before .before .before .before .before .before .loop .i in let h : i < length ts = omega (arith, pairs-length m l, c .before .before .before .before .before .before .before .before .before .before .before .before .before .before .before .before .before .before .before .least .ensures) in (search needs, search needs, search needs, next-text ts i [] (omega arith) h (pair-at m l i h) (c .before .before .before .before .before .before .before .before .before .before .before .loop .inv .3) (c .before .before .before .before .before .before .before .before .put-byte2 .ensures) (c .before .before .put-pair2 .ensures))
+loop-again c =
+    let a = c .before .before .before .before .before .before .before .before .before .before .before .before .before .before .before .before .before .before .before .before .before .before .args in
+    let m = a .mark in
+    let l = a .pairs .now in
+    let ts = pairTexts m l in
+    let i = c .before .before .before .before .before .before .before .before .before .before .before .loop .i in
+    let h : i < length ts = omega (arith, pairs-length m l, c .before .before .before .before .before .before .before .before .before .before .before .before .before .before .before .before .before .before .before .least .ensures) in (
+      search needs,
+      search needs,
+      search needs,
+      next-text ts i [] (omega arith) h (pair-at m l i h) (c .before .before .before .before .before .before .before .before .before .before .before .loop .inv .3) (c .before .before .before .before .before .before .before .before .put-byte2 .ensures) (c .before .before .put-pair2 .ensures),
+    )
 
 same-length-2 : tie.Need-same-length-2 Inv-loop μ-loop
 same-length-2 c = search needs
 
 returns-2 : tie.Need-returns-2 Inv-loop μ-loop
 unfolding pairsListed
-returns-2 c = let a = c .before .before .before .before .before .before .before .before .before .before .before .before .args in let m = a .mark in let l = a .pairs .now in let ts = pairTexts m l in let n : c .before .loop .i ≡ min (a .count) (length ts) = omega (arith, pairs-length m l, c .before .before .before .before .before .before .before .before .before .least .ensures) in said (commas-done ts (a .count) (c .before .loop .i) [] n (omega arith)) (on (said (sym (pair-at m l 0 (omega arith))) (c .before .before .before .before .put-pair .ensures)) (c .before .loop .inv .3))
+returns-2 c =
+    let a = c .before .before .before .before .before .before .before .before .before .before .before .before .args in
+    let m = a .mark in
+    let l = a .pairs .now in
+    let ts = pairTexts m l in
+    let n : c .before .loop .i ≡ min (a .count) (length ts) = omega (arith, pairs-length m l, c .before .before .before .before .before .before .before .before .before .least .ensures) in
+    said
+    (commas-done ts (a .count) (c .before .loop .i) [] n (omega arith))
+    (on (said (sym (pair-at m l 0 (omega arith))) (c .before .before .before .before .put-pair .ensures)) (c .before .loop .inv .3))
 
 pub put-pairs-spec : {M : Type 1} → statement M
 put-pairs-spec =

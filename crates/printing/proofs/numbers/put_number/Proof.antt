@@ -28,7 +28,9 @@ same-length : tie.Need-same-length
 same-length c = search needs
 
 returns : tie.Need-returns
-returns c = let s = c .before .before .before .before .before .before .before .spell in said (spelled (s .last .1 .0) _ (s .result) (s .kept .1 .0) (s .ensures .1)) (c .before .before .put-bytes .ensures)
+returns c =
+    let s = c .before .before .before .before .before .before .before .spell in
+    said (spelled (s .last .1 .0) _ (s .result) (s .kept .1 .0) (s .ensures .1)) (c .before .before .put-bytes .ensures)
 
 pub put-number-spec : {M : Type 1} → statement M
 put-number-spec =

@@ -13,7 +13,10 @@ same-length : tie.Need-same-length
 same-length c = search needs
 
 returns : tie.Need-returns
-returns c = said (signed-plain (c .before .before .before .before .before .before .args .word) (search needs)) (c .before .before .put-number .ensures)
+returns c =
+    said
+    (signed-plain (c .before .before .before .before .before .before .args .word) (search needs))
+    (c .before .before .put-number .ensures)
 
 put-byte-requires : tie.Need-put-byte-requires
 put-byte-requires c κs = search needs
@@ -28,7 +31,10 @@ same-length-2 : tie.Need-same-length-2
 same-length-2 c = search needs
 
 returns-2 : tie.Need-returns-2
-returns-2 c = said (signed-below (c .before .before .before .before .before .before .before .before .before .before .before .args .word) (search needs) (search needs)) (on (c .before .before .before .before .before .before .put-byte .ensures) (c .before .before .put-number2 .ensures))
+returns-2 c =
+    said
+    (signed-below (c .before .before .before .before .before .before .before .before .before .before .before .args .word) (search needs) (search needs))
+    (on (c .before .before .before .before .before .before .put-byte .ensures) (c .before .before .put-number2 .ensures))
 
 put-number-requires-3 : tie.Need-put-number-requires-3
 put-number-requires-3 c κs = search needs
@@ -37,7 +43,10 @@ same-length-3 : tie.Need-same-length-3
 same-length-3 c = search needs
 
 returns-3 : tie.Need-returns-3
-returns-3 c = said (signed-wide (c .before .before .before .before .before .before .before .args .word) (search needs) (search needs)) (c .before .before .put-number3 .ensures)
+returns-3 c =
+    said
+    (signed-wide (c .before .before .before .before .before .before .before .args .word) (search needs) (search needs))
+    (c .before .before .put-number3 .ensures)
 
 pub put-signed-spec : {M : Type 1} → statement M
 put-signed-spec =

@@ -17,7 +17,8 @@ abbrev μ-loop : tie.MeasureT-loop
 μ-loop word space₀ rest₀ i₀ space rest i = rest
 
 loop-holds : tie.Need-loop-holds Inv-loop μ-loop
-loop-holds c = (search needs, search needs, c .pre, omega (arith, c .fits .word .fits), none-yet (c .args .space .now) (c .args .word) (c .pre))
+loop-holds c =
+    (search needs, search needs, c .pre, omega (arith, c .fits .word .fits), none-yet (c .args .space .now) (c .args .word) (c .pre))
 
 sub-i : tie.Need-sub-i Inv-loop μ-loop
 sub-i c = search needs
@@ -35,7 +36,14 @@ loop-less : tie.Need-loop-less Inv-loop μ-loop
 loop-less c = search needs
 
 loop-again : tie.Need-loop-again Inv-loop μ-loop
-loop-again c = let t = two-digits (c .before .loop .i) (c .before .loop .rest) (omega arith) (c .before .loop .inv .3) in (omega arith, omega arith, search needs, tenth (c .before .loop .i) (c .before .loop .rest) (omega arith) (c .before .loop .inv .3), digit-more (c .before .loop .space) (c .before .loop .i) (c .before .loop .rest) (omega arith) (omega arith) (omega arith) ∙ c .before .loop .inv .4)
+loop-again c =
+    let t = two-digits (c .before .loop .i) (c .before .loop .rest) (omega arith) (c .before .loop .inv .3) in (
+      omega arith,
+      omega arith,
+      search needs,
+      tenth (c .before .loop .i) (c .before .loop .rest) (omega arith) (c .before .loop .inv .3),
+      digit-more (c .before .loop .space) (c .before .loop .i) (c .before .loop .rest) (omega arith) (omega arith) (omega arith) ∙ c .before .loop .inv .4,
+    )
 
 sub-i-2 : tie.Need-sub-i-2 Inv-loop μ-loop
 sub-i-2 c = search needs
@@ -53,7 +61,10 @@ same-length : tie.Need-same-length Inv-loop μ-loop
 same-length c = length-set (c .before .loop .space) (c .before .loop .i - 1) _ ∙ c .before .loop .inv .2 ∙ sym (c .before .before .pre)
 
 returns : tie.Need-returns Inv-loop μ-loop
-returns c = (omega arith, digit-last (c .before .loop .space) (c .before .loop .i) (c .before .loop .rest) (omega arith) (omega arith) (omega arith) ∙ c .before .loop .inv .4)
+returns c = (
+  omega arith,
+  digit-last (c .before .loop .space) (c .before .loop .i) (c .before .loop .rest) (omega arith) (omega arith) (omega arith) ∙ c .before .loop .inv .4,
+)
 
 pub spell-spec : {M : Type 1} → statement M
 spell-spec =
