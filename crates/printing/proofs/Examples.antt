@@ -8,8 +8,10 @@ use Rattle.answers.specs.declared.DagDelta.{DagDelta}
 use Rattle.answers.specs.declared.DagChangeReason.the-variants.{Split, Merge, Unknown}
 use Rattle.answers.specs.declared.Eligibility.the-variants as E
 use Rattle.answers.specs.declared.Updated.the-variants as U
-use Rattle.printing.specs.Shown.{decimal, signed, commas, listed, pairsListed, firstText, valueTexts, shownRefusal, shownAccepted, shownUpdated, shownUnprovable, shownBlocked, shownManaged, shownOrdering, shownUnreadable}
-use Rattle.printing.specs.Text.{bytesOf}
+use Rattle.texts.specs.Decimal.{decimal, signed}
+use Rattle.texts.specs.CommaList.{commas, listed, pairsListed}
+use Rattle.printing.specs.Shown.{firstText, valueTexts, shownRefusal, shownAccepted, shownUpdated, shownUnprovable, shownBlocked, shownManaged, shownOrdering, shownUnreadable}
+use Rattle.texts.specs.Text.{bytesOf}
 
 abbrev refusal : ℕ → ℕ → ℕ → ℕ → ℕ → Refusal
 refusal n a b c d = record { number = n; a = a; b = b; c = c; d = d }

@@ -12,12 +12,20 @@ use borrow.Author.Tests.{lt-ltb, le-ltb, eq-eqb, ne-eqb}
 use Rattle.answers.specs.declared.Refusal.{Refusal}
 use Rattle.answers.specs.declared.kinds.Kind.{Kind}
 use Rattle.answers.specs.Kinds.{kindOf}
-use Rattle.printing.specs.Shown.{decimal, signed, spaced, firstText, valueTexts, refused, shownRefusal}
+use Rattle.texts.specs.Written.{Wrote}
+use Rattle.texts.proofs.Writing.{on}
+use Rattle.texts.specs.Decimal.{decimal, signed}
+use Rattle.printing.specs.Shown.{spaced, firstText, valueTexts, refused, shownRefusal}
 
 spaced-append : (ts us : List (List ℕ)) → spaced (ts ++ us) ≡ spaced ts ++ spaced us
 spaced-append [] us = refl
 spaced-append (t ∷ ts) us =
     ap (λ (l : List ℕ). 32 ∷ (t ++ l)) (spaced-append ts us) ∙ ap (λ (l : List ℕ). 32 ∷ l) (sym (append-assoc t (spaced ts) (spaced us)))
+
+-- a field before the fields that follow it, and what else follows
+pub field : (ts : List (List ℕ)) (zs : List ℕ) {area : List ℕ} {at : ℕ} {t after : List ℕ} {p : ℕ} {last : List ℕ} {q : ℕ}
+    → Wrote area at (32 ∷ t) after p → Wrote after p (spaced ts ++ zs) last q → Wrote area at (spaced (t ∷ ts) ++ zs) last q
+field ts zs {t = t} w v = rw (append-assoc t (spaced ts) zs) (on w v)
 
 -- number and values, then what else the line has
 pub refused-on : (r : Refusal) (more : List (List ℕ))

@@ -2,11 +2,11 @@
 -- "Output: `A` epoch, order, added, removed, splits, merges, reason letter (S, M, R, U), handover; `R` number, values, 51's list; `T` stale;
 -- `B` incomplete, remote; `E`; `M` remote; `X` and an unreadable line's number, from 1".
 -- Assumes nothing.
-use Prim.Native.Nat.{ℕ, zero, suc, _+_, _*_, _-_, _/_, _%_}
+use Prim.Native.Nat.{ℕ}
 use Prim.Native.Char.{code}
-use mathlib.Core.Bool.{Bool, true, false, cond, _&&_}
-use mathlib.Core.List.{List, [], _∷_, _++_, map}
-use lib.Dec.{eqb, ltb, leb}
+use mathlib.Core.Bool.{cond}
+use mathlib.Core.List.{List, [], _∷_, _++_}
+use lib.Dec.{eqb}
 use lib.ListN.{take}
 use Rattle.answers.specs.declared.Refusal.{Refusal}
 use Rattle.answers.specs.declared.DagChangeReason.{DagChangeReason}
@@ -17,52 +17,8 @@ use Rattle.answers.specs.declared.Eligibility.the-variants as E
 use Rattle.answers.specs.declared.Updated.{Updated}
 use Rattle.answers.specs.declared.Updated.the-variants as U
 use Rattle.answers.specs.Kinds.{kindOf}
-
--- ---- numbers
-
--- the ASCII code of a digit
-abbrev pub glyph : ℕ → ℕ
-glyph d = 48 + d
-
--- the digits of n, at most k of them, before those that stand already
-abbrev pub digitsBefore : ℕ → ℕ → List ℕ → List ℕ
-digitsBefore zero n ds = ds
-digitsBefore (suc k) n ds = cond (ltb n 10) (glyph n ∷ ds) (digitsBefore k (n / 10) (glyph (n % 10) ∷ ds))
-
--- a word in decimal, without leading zeros: 64 bits have at most 20 digits
-unfoldable pub decimal : ℕ → List ℕ
-decimal n = digitsBefore 20 n []
-
--- "signed code": a word of 32 bits from 2 ^ 31 on stands for the number below zero that has these 32 bits
-abbrev pub belowZero : ℕ → Bool
-belowZero w = leb 2147483648 w && ltb w 4294967296
-
-unfoldable pub signed : ℕ → List ℕ
-signed w = cond (belowZero w) (code "-" ∷ decimal (4294967296 - w)) (decimal w)
-
--- ---- comma lists; "`-` for absent or none"
-
-abbrev pub commasAfter : List (List ℕ) → List ℕ
-commasAfter [] = []
-commasAfter (t ∷ ts) = code "," ∷ (t ++ commasAfter ts)
-
-unfoldable pub commas : List (List ℕ) → List ℕ
-commas [] = code "-" ∷ []
-commas (t ∷ ts) = t ++ commasAfter ts
-
--- the first n numbers of a lent list, or as many as it has
-unfoldable pub listed : ℕ → List ℕ → List ℕ
-listed n l = commas (take n (map decimal l))
-
--- the words of a lent list two by two, with a mark between the two; a last word without a second is none
-abbrev pub pairTexts : ℕ → List ℕ → List (List ℕ)
-pairTexts mark (x ∷ y ∷ l) = (decimal x ++ (mark ∷ decimal y)) ∷ pairTexts mark l
-pairTexts mark (x ∷ []) = []
-pairTexts mark [] = []
-
--- the first n pairs of a lent list, or as many as it has
-unfoldable pub pairsListed : ℕ → ℕ → List ℕ → List ℕ
-pairsListed mark n l = commas (take n (pairTexts mark l))
+use Rattle.texts.specs.Decimal.{decimal, signed}
+use Rattle.texts.specs.CommaList.{listed, pairsListed}
 
 -- a split pair is (parent, child)
 abbrev pub splitsListed : ℕ → List ℕ → List ℕ

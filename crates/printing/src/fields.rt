@@ -1,12 +1,14 @@
 // Lines are a letter, each field after a space, and the line's end.
 ghost use mathlib.Core.Path.{_≡_};
 ghost use mathlib.Core.List.{List, [], _∷_, _++_};
-ghost use Rattle.printing.specs.Shown.{decimal, listed, pairsListed, spaced, line};
-ghost use Rattle.printing.specs.Written.{Wrote};
-use crate::area::put_byte;
-use crate::commas::put_list;
-use crate::commas::put_pairs;
-use crate::numbers::put_number;
+ghost use Rattle.texts.specs.Decimal.{decimal};
+ghost use Rattle.texts.specs.CommaList.{listed, pairsListed};
+ghost use Rattle.printing.specs.Shown.{spaced, line};
+ghost use Rattle.texts.specs.Written.{Wrote};
+use texts::area::put_byte;
+use texts::commas::put_list;
+use texts::commas::put_pairs;
+use texts::numbers::put_number;
 
 pub const END: u8 = 10;
 

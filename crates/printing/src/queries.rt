@@ -2,8 +2,7 @@
 ghost use mathlib.Core.Path.{_≡_};
 ghost use mathlib.Core.List.{List, [], _∷_, _++_};
 ghost use Rattle.printing.specs.Shown.{shownUnprovable, shownBlocked, shownManaged, shownOrdering, shownUnreadable};
-ghost use Rattle.printing.specs.Written.{Wrote};
-use crate::area::put_byte;
+ghost use Rattle.texts.specs.Written.{Wrote};
 use crate::fields::field_list;
 use crate::fields::last_list;
 use crate::fields::last_number;
@@ -12,6 +11,7 @@ use crate::refusals::put_refusal;
 use crate::refusals::put_refused;
 use answers::Eligibility;
 use answers::Refusal;
+use texts::area::put_byte;
 
 fn put_unprovable(out: &mut [u8], at: usize, id: u64, list: &[u64], count: usize) -> usize
     ensures { λ r. ⌜ Wrote (now (out .entry)) at (shownUnprovable id count (now (list .entry))) (now (out .exit)) r ⌝ }

@@ -3,15 +3,16 @@ ghost use mathlib.Core.Path.{_≡_};
 ghost use mathlib.Core.Bool.{Bool, true, false, cond};
 ghost use mathlib.Core.List.{List, [], _∷_, _++_};
 ghost use lib.Dec.{ltb};
-ghost use Rattle.printing.specs.Shown.{decimal, spaced, firstText, valueTexts, shownRefusal};
-ghost use Rattle.printing.specs.Written.{Wrote};
-use crate::area::put_byte;
-use crate::area::put_nothing;
+ghost use Rattle.texts.specs.Decimal.{decimal};
+ghost use Rattle.printing.specs.Shown.{spaced, firstText, valueTexts, shownRefusal};
+ghost use Rattle.texts.specs.Written.{Wrote};
 use crate::fields::END;
 use crate::fields::field_number;
-use crate::numbers::put_number;
-use crate::numbers::put_signed;
 use answers::Refusal;
+use texts::area::put_byte;
+use texts::area::put_nothing;
+use texts::numbers::put_number;
+use texts::numbers::put_signed;
 
 // 41's code has a sign.
 fn field_first(out: &mut [u8], at: usize, r: Refusal) -> usize

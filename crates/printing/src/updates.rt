@@ -1,9 +1,9 @@
 // An update's answer: `A` epoch, order, added, removed, splits, merges, reason letter, handover; `T`; or a refusal.
 ghost use mathlib.Core.Path.{_≡_};
 ghost use mathlib.Core.List.{List, [], _∷_, _++_};
-ghost use Rattle.printing.specs.Shown.{decimal, spaced, letterOf, splitsListed, mergesListed, shownAccepted, shownUpdated};
-ghost use Rattle.printing.specs.Written.{Wrote};
-use crate::area::put_byte;
+ghost use Rattle.texts.specs.Decimal.{decimal};
+ghost use Rattle.printing.specs.Shown.{spaced, letterOf, splitsListed, mergesListed, shownAccepted, shownUpdated};
+ghost use Rattle.texts.specs.Written.{Wrote};
 use crate::fields::field_list;
 use crate::fields::field_number;
 use crate::fields::field_pairs;
@@ -13,6 +13,7 @@ use crate::refusals::put_refusal;
 use answers::DagChangeReason;
 use answers::DagDelta;
 use answers::Updated;
+use texts::area::put_byte;
 
 fn reason_letter(reason: DagChangeReason) -> u8
     ensures { λ r. ⌜ r ≡ letterOf reason ⌝ }

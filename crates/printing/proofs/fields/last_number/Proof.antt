@@ -2,7 +2,7 @@
 -- Assumes nothing.
 use mathlib.Core.List.{[], _∷_}
 use borrow.Author.Needs.{needs}
-use Rattle.printing.proofs.Writing.{field}
+use Rattle.printing.proofs.LineLaws.{field}
 use Rattle.printing.proofs.fields.last_number.Statement.{statement}
 use Rattle.printing.proofs.fields.last_number.Tie as tie
 

@@ -2,8 +2,10 @@
 -- Assumes nothing.
 use mathlib.Core.List.{[], _∷_}
 use borrow.Author.Needs.{needs}
-use Rattle.printing.proofs.Writing.{on, field}
-use Rattle.printing.specs.Shown.{listed, shownBlocked}
+use Rattle.texts.proofs.Writing.{on}
+use Rattle.printing.proofs.LineLaws.{field}
+use Rattle.texts.specs.CommaList.{listed}
+use Rattle.printing.specs.Shown.{shownBlocked}
 use Rattle.printing.proofs.queries.put_blocked.Statement.{statement}
 use Rattle.printing.proofs.queries.put_blocked.Tie as tie
 

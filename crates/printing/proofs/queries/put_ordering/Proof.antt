@@ -2,7 +2,7 @@
 -- Assumes nothing.
 use mathlib.Core.Path.{ap, sym}
 use borrow.Author.Needs.{needs}
-use Rattle.printing.proofs.Writing.{said}
+use Rattle.texts.proofs.Writing.{said}
 use Rattle.printing.specs.Shown.{shownOrdering}
 use Rattle.answers.specs.declared.Eligibility.{Eligibility}
 use Rattle.printing.proofs.queries.put_ordering.Statement.{statement}

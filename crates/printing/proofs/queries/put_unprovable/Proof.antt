@@ -2,9 +2,10 @@
 -- Assumes nothing.
 use mathlib.Core.List.{[], _∷_}
 use borrow.Author.Needs.{needs}
-use Rattle.printing.proofs.Writing.{on, said}
+use Rattle.texts.proofs.Writing.{on, said}
 use Rattle.printing.proofs.LineLaws.{refused-on}
-use Rattle.printing.specs.Shown.{listed, shownUnprovable}
+use Rattle.texts.specs.CommaList.{listed}
+use Rattle.printing.specs.Shown.{shownUnprovable}
 use Rattle.printing.proofs.queries.put_unprovable.Statement.{statement}
 use Rattle.printing.proofs.queries.put_unprovable.Tie as tie
 

@@ -4,7 +4,7 @@ use mathlib.Core.Path.{ap}
 use mathlib.Core.List.{List, _∷_}
 use Prim.Native.Nat.{ℕ}
 use borrow.Author.Needs.{needs}
-use Rattle.printing.proofs.Writing.{on, said}
+use Rattle.texts.proofs.Writing.{on, said}
 use Rattle.printing.proofs.LineLaws.{first-signed, first-plain}
 use Rattle.printing.proofs.refusals.field_first.Statement.{statement}
 use Rattle.printing.proofs.refusals.field_first.Tie as tie

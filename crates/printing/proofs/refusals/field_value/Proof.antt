@@ -1,9 +1,9 @@
 -- `printing::refusals::field_value` meets its contract: each need is arithmetic, a law that is imported, or what a callee promised.
 -- Assumes nothing.
 use borrow.Author.Needs.{needs}
-use Rattle.printing.proofs.Writing.{nothing, said}
+use Rattle.texts.proofs.Writing.{nothing, said}
 use Rattle.printing.proofs.LineLaws.{carries-it, carries-none}
-use Rattle.printing.specs.Shown.{decimal}
+use Rattle.texts.specs.Decimal.{decimal}
 use Rattle.printing.proofs.refusals.field_value.Statement.{statement}
 use Rattle.printing.proofs.refusals.field_value.Tie as tie
 

@@ -1,7 +1,7 @@
 -- `printing::refusals::put_refusal` meets its contract: each need is arithmetic, a law that is imported, or what a callee promised.
 -- Assumes nothing.
 use borrow.Author.Needs.{needs}
-use Rattle.printing.proofs.Writing.{on, said}
+use Rattle.texts.proofs.Writing.{on, said}
 use Rattle.printing.proofs.LineLaws.{refusal-shown}
 use Rattle.printing.proofs.refusals.put_refusal.Statement.{statement}
 use Rattle.printing.proofs.refusals.put_refusal.Tie as tie

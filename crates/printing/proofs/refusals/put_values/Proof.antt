@@ -2,7 +2,7 @@
 -- Assumes nothing.
 use native.Mathlib.Omega.{arith}
 use borrow.Author.Needs.{needs}
-use Rattle.printing.proofs.Writing.{nothing, on, said}
+use Rattle.texts.proofs.Writing.{nothing, on, said}
 use Rattle.printing.proofs.LineLaws.{values-none, values-some}
 use Rattle.printing.proofs.refusals.put_values.Statement.{statement}
 use Rattle.printing.proofs.refusals.put_values.Tie as tie

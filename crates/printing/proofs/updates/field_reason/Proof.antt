@@ -4,7 +4,7 @@ use mathlib.Core.List.{[], _∷_}
 use mathlib.Core.Path.{ap}
 use Prim.Native.Nat.{ℕ}
 use borrow.Author.Needs.{needs}
-use Rattle.printing.proofs.Writing.{on, said}
+use Rattle.texts.proofs.Writing.{on, said}
 use Rattle.printing.proofs.updates.field_reason.Statement.{statement}
 use Rattle.printing.proofs.updates.field_reason.Tie as tie
 

@@ -2,8 +2,11 @@
 -- Assumes nothing.
 use mathlib.Core.List.{[], _∷_}
 use borrow.Author.Needs.{needs}
-use Rattle.printing.proofs.Writing.{on, field}
-use Rattle.printing.specs.Shown.{decimal, letterOf, listed, splitsListed, mergesListed, shownAccepted}
+use Rattle.texts.proofs.Writing.{on}
+use Rattle.printing.proofs.LineLaws.{field}
+use Rattle.texts.specs.Decimal.{decimal}
+use Rattle.texts.specs.CommaList.{listed}
+use Rattle.printing.specs.Shown.{letterOf, splitsListed, mergesListed, shownAccepted}
 use Rattle.printing.proofs.updates.put_accepted.Statement.{statement}
 use Rattle.printing.proofs.updates.put_accepted.Tie as tie
 

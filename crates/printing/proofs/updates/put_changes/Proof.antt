@@ -2,8 +2,9 @@
 -- Assumes nothing.
 use mathlib.Core.List.{[], _∷_}
 use borrow.Author.Needs.{needs}
-use Rattle.printing.proofs.Writing.{field}
-use Rattle.printing.specs.Shown.{decimal, letterOf, mergesListed}
+use Rattle.printing.proofs.LineLaws.{field}
+use Rattle.texts.specs.Decimal.{decimal}
+use Rattle.printing.specs.Shown.{letterOf, mergesListed}
 use Rattle.printing.proofs.updates.put_changes.Statement.{statement}
 use Rattle.printing.proofs.updates.put_changes.Tie as tie
 

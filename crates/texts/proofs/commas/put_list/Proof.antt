@@ -1,4 +1,4 @@
--- `printing::commas::put_list` meets its contract: each need is arithmetic, a law that is imported, or what a callee promised.
+-- `texts::commas::put_list` meets its contract: each need is arithmetic, a law that is imported, or what a callee promised.
 -- Assumes nothing.
 use Prim.Native.Nat.{_≤_, _-_}
 use lib.ListN.{length}
@@ -6,12 +6,13 @@ use mathlib.Core.Path.{_≡_, refl, sym}
 use mathlib.Core.List.{map}
 use native.Mathlib.Omega.{arith}
 use borrow.Author.Needs.{needs}
-use Rattle.printing.specs.Written.{Wrote}
-use Rattle.printing.proofs.Writing.{on, said}
-use Rattle.printing.specs.Shown.{decimal, listed}
-use Rattle.printing.proofs.CommaLaws.{behind, begun, next-text, commas-none, commas-done, numbers-length, number-at}
-use Rattle.printing.proofs.commas.put_list.Statement.{statement}
-use Rattle.printing.proofs.commas.put_list.Tie as tie
+use Rattle.texts.specs.Written.{Wrote}
+use Rattle.texts.proofs.Writing.{on, said}
+use Rattle.texts.specs.Decimal.{decimal}
+use Rattle.texts.specs.CommaList.{listed}
+use Rattle.texts.proofs.CommaLaws.{behind, begun, next-text, commas-none, commas-done, numbers-length, number-at}
+use Rattle.texts.proofs.commas.put_list.Statement.{statement}
+use Rattle.texts.proofs.commas.put_list.Tie as tie
 
 abbrev Inv-loop : tie.InvT-loop
 Inv-loop out₀ at list count n p₀ i₀ out p i = (1 ≤ i) × (i ≤ n) × (length out ≡ length out₀) × Wrote out₀ p₀ (behind (map decimal list) i) out p

@@ -2,8 +2,8 @@
 ghost use mathlib.Core.Path.{_≡_};
 ghost use Prim.Native.Nat.{_≤_};
 ghost use lib.ListN.{length, drop};
-ghost use Rattle.printing.specs.Shown.{decimal, signed};
-ghost use Rattle.printing.specs.Written.{Wrote};
+ghost use Rattle.texts.specs.Decimal.{decimal, signed};
+ghost use Rattle.texts.specs.Written.{Wrote};
 use crate::area::put_byte;
 use crate::area::put_bytes;
 

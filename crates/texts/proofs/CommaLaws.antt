@@ -10,9 +10,10 @@ use native.Mathlib.Nat.{min-eq-left, min-eq-right, add-div-right}
 use lib.ListN.{length, getD, take, drop, length-map, List·getD-map}
 use lib.Seq.{take-suc, take-all, take-length}
 use Rattle.lists.proofs.Cases.{lt-or-le}
-use Rattle.printing.specs.Shown.{decimal, commasAfter, commas, listed, pairTexts, pairsListed}
-use Rattle.printing.specs.Written.{Wrote}
-use Rattle.printing.proofs.Writing.{kept, nothing, on, said}
+use Rattle.texts.specs.Decimal.{decimal}
+use Rattle.texts.specs.CommaList.{commasAfter, commas, listed, pairTexts, pairsListed}
+use Rattle.texts.specs.Written.{Wrote}
+use Rattle.texts.proofs.Writing.{kept, nothing, on, said}
 
 -- ---- texts of any kind
 

@@ -10,7 +10,7 @@ use lib.ListN.{length, getD, take, drop, length-drop, set, length-set, drop-of-l
 use lib.Seq.{take-all, drop-cons, getD-set-same, drop-set-lt}
 use borrow.Author.Tests.{lt-ltb, le-ltb, lt-leb, le-leb}
 use Rattle.lists.proofs.Cases.{lt-or-le}
-use Rattle.printing.specs.Shown.{glyph, digitsBefore, decimal, signed}
+use Rattle.texts.specs.Decimal.{glyph, digitsBefore, decimal, signed}
 
 -- ---- one digit, at the place before those that stand already
 

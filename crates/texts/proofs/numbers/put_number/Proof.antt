@@ -1,10 +1,10 @@
--- `printing::numbers::put_number` meets its contract: each need is arithmetic, a law that is imported, or what a callee promised.
+-- `texts::numbers::put_number` meets its contract: each need is arithmetic, a law that is imported, or what a callee promised.
 -- Assumes nothing.
 use borrow.Author.Needs.{needs}
-use Rattle.printing.proofs.Writing.{said}
-use Rattle.printing.proofs.Digits.{spelled}
-use Rattle.printing.proofs.numbers.put_number.Statement.{statement}
-use Rattle.printing.proofs.numbers.put_number.Tie as tie
+use Rattle.texts.proofs.Writing.{said}
+use Rattle.texts.proofs.Digits.{spelled}
+use Rattle.texts.proofs.numbers.put_number.Statement.{statement}
+use Rattle.texts.proofs.numbers.put_number.Tie as tie
 
 slice-aggregate-spell : tie.Need-slice-aggregate-spell
 slice-aggregate-spell c = search needs

@@ -1,9 +1,9 @@
--- `printing::commas::put_pair` meets its contract: each need is arithmetic, a law that is imported, or what a callee promised.
+-- `texts::commas::put_pair` meets its contract: each need is arithmetic, a law that is imported, or what a callee promised.
 -- Assumes nothing.
 use borrow.Author.Needs.{needs}
-use Rattle.printing.proofs.Writing.{on}
-use Rattle.printing.proofs.commas.put_pair.Statement.{statement}
-use Rattle.printing.proofs.commas.put_pair.Tie as tie
+use Rattle.texts.proofs.Writing.{on}
+use Rattle.texts.proofs.commas.put_pair.Statement.{statement}
+use Rattle.texts.proofs.commas.put_pair.Tie as tie
 
 put-number-requires : tie.Need-put-number-requires
 put-number-requires c κs = search needs

@@ -1,4 +1,4 @@
--- `printing::area::put_bytes` meets its contract: each need is arithmetic, a law that is imported, or what a callee promised.
+-- `texts::area::put_bytes` meets its contract: each need is arithmetic, a law that is imported, or what a callee promised.
 -- Assumes nothing.
 use native.Mathlib.Omega.{arith}
 use Prim.Native.Nat.{_-_, _≤_}
@@ -6,10 +6,10 @@ use lib.ListN.{length, take}
 use mathlib.Core.Path.{_≡_}
 use lib.Seq.{take-all}
 use borrow.Author.Needs.{needs}
-use Rattle.printing.specs.Written.{Wrote}
-use Rattle.printing.proofs.Writing.{byte-on, said}
-use Rattle.printing.proofs.area.put_bytes.Statement.{statement}
-use Rattle.printing.proofs.area.put_bytes.Tie as tie
+use Rattle.texts.specs.Written.{Wrote}
+use Rattle.texts.proofs.Writing.{byte-on, said}
+use Rattle.texts.proofs.area.put_bytes.Statement.{statement}
+use Rattle.texts.proofs.area.put_bytes.Tie as tie
 
 abbrev Inv-loop : tie.InvT-loop
 Inv-loop out₀ at bytes p₀ i₀ out p i = (i ≤ length bytes) × (length out ≡ length out₀) × Wrote out₀ at (take i bytes) out p

@@ -2,8 +2,9 @@
 ghost use mathlib.Core.Path.{_≡_};
 ghost use mathlib.Core.List.{List, [], _∷_, _++_};
 ghost use Prim.Native.Nat.{min};
-ghost use Rattle.printing.specs.Shown.{decimal, listed, pairsListed};
-ghost use Rattle.printing.specs.Written.{Wrote};
+ghost use Rattle.texts.specs.Decimal.{decimal};
+ghost use Rattle.texts.specs.CommaList.{listed, pairsListed};
+ghost use Rattle.texts.specs.Written.{Wrote};
 use crate::area::put_byte;
 use crate::numbers::put_number;
 

@@ -10,8 +10,7 @@ use native.Mathlib.Numerals.{add-one}
 use lib.ListN.{length, getD, set, take, drop, length-append, length-set}
 use lib.Seq.{sets, length-sets, sets-eq, set-out, take-at, take-suc}
 use Rattle.lists.proofs.Cases.{lt-or-le}
-use Rattle.printing.specs.Written.{written, Wrote}
-use Rattle.printing.specs.Shown.{spaced}
+use Rattle.texts.specs.Written.{written, Wrote}
 
 -- past the end nothing is written
 pub written-past : (area : List ℕ) (at : ℕ) (bytes : List ℕ) → length area ≤ at → written area at bytes ≡ area
@@ -67,11 +66,6 @@ said e w = rw e at w
 pub byte-on : (bytes : List ℕ) (i : ℕ) {area : List ℕ} {at : ℕ} {after : List ℕ} {p : ℕ} {last : List ℕ} {q : ℕ} → i < length bytes
     → Wrote area at (take i bytes) after p → Wrote after p (getD bytes i 0 ∷ []) last q → Wrote area at (take (i + 1) bytes) last q
 byte-on bytes i h w v = rw (add-one, take-suc bytes i 0) (on w v)
-
--- a field before the fields that follow it, and what else follows
-pub field : (ts : List (List ℕ)) (zs : List ℕ) {area : List ℕ} {at : ℕ} {t after : List ℕ} {p : ℕ} {last : List ℕ} {q : ℕ}
-    → Wrote area at (32 ∷ t) after p → Wrote after p (spaced ts ++ zs) last q → Wrote area at (spaced (t ∷ ts) ++ zs) last q
-field ts zs {t = t} w v = rw (append-assoc t (spaced ts) zs) (on w v)
 
 -- what stands at the front of an area that had room
 pub front-is : (area bytes : List ℕ) → length bytes ≤ length area → take (length bytes) (written area 0 bytes) ≡ bytes

@@ -1,10 +1,10 @@
--- `printing::area::put_byte` meets its contract: each need is arithmetic, a law that is imported, or what a callee promised.
+-- `texts::area::put_byte` meets its contract: each need is arithmetic, a law that is imported, or what a callee promised.
 -- Assumes nothing.
 use native.Mathlib.Omega.{arith}
 use borrow.Author.Needs.{needs}
-use Rattle.printing.proofs.Writing.{byte-past}
-use Rattle.printing.proofs.area.put_byte.Statement.{statement}
-use Rattle.printing.proofs.area.put_byte.Tie as tie
+use Rattle.texts.proofs.Writing.{byte-past}
+use Rattle.texts.proofs.area.put_byte.Statement.{statement}
+use Rattle.texts.proofs.area.put_byte.Tie as tie
 
 slice-write-out : tie.Need-slice-write-out
 slice-write-out c = search needs

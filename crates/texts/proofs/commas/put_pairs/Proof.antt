@@ -1,4 +1,4 @@
--- `printing::commas::put_pairs` meets its contract: each need is arithmetic, a law that is imported, or what a callee promised.
+-- `texts::commas::put_pairs` meets its contract: each need is arithmetic, a law that is imported, or what a callee promised.
 -- Assumes nothing.
 use Prim.Native.Nat.{min, _≤_, _-_, _<_}
 use lib.ListN.{length}
@@ -6,12 +6,12 @@ use mathlib.Core.Path.{_≡_, refl, sym}
 use mathlib.Core.List.{[]}
 use native.Mathlib.Omega.{arith}
 use borrow.Author.Needs.{needs}
-use Rattle.printing.specs.Written.{Wrote}
-use Rattle.printing.proofs.Writing.{on, said}
-use Rattle.printing.specs.Shown.{pairTexts, pairsListed}
-use Rattle.printing.proofs.CommaLaws.{behind, begun, next-text, commas-none, commas-done, pairs-length, pair-at}
-use Rattle.printing.proofs.commas.put_pairs.Statement.{statement}
-use Rattle.printing.proofs.commas.put_pairs.Tie as tie
+use Rattle.texts.specs.Written.{Wrote}
+use Rattle.texts.proofs.Writing.{on, said}
+use Rattle.texts.specs.CommaList.{pairTexts, pairsListed}
+use Rattle.texts.proofs.CommaLaws.{behind, begun, next-text, commas-none, commas-done, pairs-length, pair-at}
+use Rattle.texts.proofs.commas.put_pairs.Statement.{statement}
+use Rattle.texts.proofs.commas.put_pairs.Tie as tie
 
 abbrev Inv-loop : tie.InvT-loop
 Inv-loop out₀ at pairs count mark n p₀ i₀ out p i = (1 ≤ i) × (i ≤ n) × (length out ≡ length out₀) × Wrote out₀ p₀ (behind (pairTexts mark pairs) i) out p

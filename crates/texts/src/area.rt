@@ -3,7 +3,7 @@ ghost use mathlib.Core.Path.{_≡_};
 ghost use mathlib.Core.List.{List, [], _∷_};
 ghost use Prim.Native.Nat.{min};
 ghost use lib.ListN.{length};
-ghost use Rattle.printing.specs.Written.{Wrote};
+ghost use Rattle.texts.specs.Written.{Wrote};
 
 // Nothing yet: the place itself, or the area's end before it.
 pub fn put_nothing(out: &[u8], at: usize) -> usize

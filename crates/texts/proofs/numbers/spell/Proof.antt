@@ -1,14 +1,14 @@
--- `printing::numbers::spell` meets its contract: each need is arithmetic, a law that is imported, or what a callee promised.
+-- `texts::numbers::spell` meets its contract: each need is arithmetic, a law that is imported, or what a callee promised.
 -- Assumes nothing.
 use mathlib.Core.Path.{sym, _∙_, _≡_}
 use lib.ListN.{length-set, length, drop}
 use Prim.Native.Nat.{_≤_, _<_, _^_, _-_}
 use native.Mathlib.Omega.{arith}
 use borrow.Author.Needs.{needs}
-use Rattle.printing.specs.Shown.{digitsBefore, decimal}
-use Rattle.printing.proofs.Digits.{none-yet, digit-more, digit-last, tenth, two-digits}
-use Rattle.printing.proofs.numbers.spell.Statement.{statement}
-use Rattle.printing.proofs.numbers.spell.Tie as tie
+use Rattle.texts.specs.Decimal.{digitsBefore, decimal}
+use Rattle.texts.proofs.Digits.{none-yet, digit-more, digit-last, tenth, two-digits}
+use Rattle.texts.proofs.numbers.spell.Statement.{statement}
+use Rattle.texts.proofs.numbers.spell.Tie as tie
 
 abbrev Inv-loop : tie.InvT-loop
 Inv-loop word space₀ rest₀ i₀ space rest i = (1 ≤ i) × (i ≤ 20) × (length space ≡ 20) × (rest < 10 ^ i) × (digitsBefore i rest (drop i space) ≡ decimal word)

@@ -1,10 +1,10 @@
--- `printing::numbers::put_signed` meets its contract: each need is arithmetic, a law that is imported, or what a callee promised.
+-- `texts::numbers::put_signed` meets its contract: each need is arithmetic, a law that is imported, or what a callee promised.
 -- Assumes nothing.
 use borrow.Author.Needs.{needs}
-use Rattle.printing.proofs.Writing.{said, on}
-use Rattle.printing.proofs.Digits.{signed-plain, signed-below, signed-wide}
-use Rattle.printing.proofs.numbers.put_signed.Statement.{statement}
-use Rattle.printing.proofs.numbers.put_signed.Tie as tie
+use Rattle.texts.proofs.Writing.{said, on}
+use Rattle.texts.proofs.Digits.{signed-plain, signed-below, signed-wide}
+use Rattle.texts.proofs.numbers.put_signed.Statement.{statement}
+use Rattle.texts.proofs.numbers.put_signed.Tie as tie
 
 put-number-requires : tie.Need-put-number-requires
 put-number-requires c κs = search needs

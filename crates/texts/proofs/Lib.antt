@@ -1,0 +1,3 @@
+pub mod CommaLaws
+pub mod Digits
+pub mod Writing
