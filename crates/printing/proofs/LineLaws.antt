@@ -17,7 +17,7 @@ use Rattle.texts.proofs.Writing.{on}
 use Rattle.texts.specs.Decimal.{decimal, signed}
 use Rattle.printing.specs.Shown.{spaced, firstText, valueTexts, refused, shownRefusal}
 
-spaced-append : (ts us : List (List ℕ)) → spaced (ts ++ us) ≡ spaced ts ++ spaced us
+pub spaced-append : (ts us : List (List ℕ)) → spaced (ts ++ us) ≡ spaced ts ++ spaced us
 spaced-append [] us = refl
 spaced-append (t ∷ ts) us =
     ap (λ (l : List ℕ). 32 ∷ (t ++ l)) (spaced-append ts us) ∙ ap (λ (l : List ℕ). 32 ∷ l) (sym (append-assoc t (spaced ts) (spaced us)))
