@@ -1,0 +1,4 @@
+pub mod CommaLaws
+pub mod Digits
+pub mod Lengths
+pub mod Writing
