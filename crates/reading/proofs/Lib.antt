@@ -1,2 +1,5 @@
 pub mod Digits
 pub mod Codes
+pub mod Parts
+pub mod Counts
+pub mod Found
