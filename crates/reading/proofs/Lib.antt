@@ -6,3 +6,7 @@ pub mod Found
 pub mod Listing
 pub mod Filling
 pub mod Whole
+pub mod Chain
+pub mod Segments
+pub mod Queries
+pub mod Told

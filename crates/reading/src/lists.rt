@@ -1,9 +1,11 @@
 // Lists of numbers, which commas separate. A list is measured before a word is written, so that an unreadable one writes nothing.
 ghost use mathlib.Core.Path.{_≡_};
 ghost use lib.ListN.{length};
+ghost use Rattle.reading.specs.Fields.{field};
 ghost use Rattle.reading.specs.Lists.{listOf, listed, listWords, filled};
 use crate::fields;
 use crate::items;
+use crate::spans;
 
 // A list by how many numbers it has.
 pub enum Listed {
@@ -32,4 +34,23 @@ pub fn read_list(field: &[u8], words: &mut [u64]) -> Listed
         items::write_items(field, words);
     }
     Listed::Items(n)
+}
+
+// The list in a field of a line.
+pub fn length_at(line: &[u8], number: usize, room: usize) -> Listed
+    ensures { λ r. ⌜ r ≡ listed (listOf room (field (now (line .entry)) number)) ⌝ }
+{
+    let span = spans::field_at(line, number);
+    let from = span.from;
+    let to = span.to;
+    list_length(&line[from..to], room)
+}
+
+pub fn list_at(line: &[u8], number: usize, words: &mut [u64])
+    ensures { λ _. ⌜ now (words .exit) ≡ filled (now (words .entry)) (listWords (listOf (length (now (words .entry))) (field (now (line .entry)) number))) ⌝ }
+{
+    let span = spans::field_at(line, number);
+    let from = span.from;
+    let to = span.to;
+    read_list(&line[from..to], words);
 }
