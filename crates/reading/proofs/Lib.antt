@@ -1,0 +1,12 @@
+pub mod Digits
+pub mod Codes
+pub mod Parts
+pub mod Counts
+pub mod Found
+pub mod Listing
+pub mod Filling
+pub mod Whole
+pub mod Chain
+pub mod Segments
+pub mod Queries
+pub mod Told

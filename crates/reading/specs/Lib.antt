@@ -1,0 +1,4 @@
+pub mod Numbers
+pub mod Fields
+pub mod Lists
+pub mod Lines
