@@ -1,0 +1,3 @@
+pub mod Told
+pub mod Span
+pub mod Needs
