@@ -1,3 +1,4 @@
 pub mod Capped
 pub mod Spans
+pub mod Walk
 pub mod Words

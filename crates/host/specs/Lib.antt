@@ -1,3 +1,4 @@
 pub mod Told
 pub mod Span
 pub mod Needs
+pub mod Turns
