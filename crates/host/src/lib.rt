@@ -8,3 +8,4 @@ pub mod judge;
 pub mod names;
 pub mod needs;
 pub mod stretch;
+pub mod updating;
