@@ -16,9 +16,9 @@ use types::records::Assigned;
 use words::Found;
 
 // Where the walk over the list stands: the next record, which is past the last one where the walk has ended, and the answer so far.
-struct Turn {
-    next: usize,
-    answer: Judged,
+pub struct Turn {
+    pub next: usize,
+    pub answer: Judged,
 }
 
 // The row says another range than the assignment.
@@ -99,14 +99,14 @@ fn turn_to(next: usize, len: usize, answer: Judged) -> Turn
 }
 
 // What comes before the list.
-fn first_turn(len: usize, rows: &[u64], n: usize, dag: u64, epoch: u64) -> Turn
+pub fn first_turn(len: usize, rows: &[u64], n: usize, dag: u64, epoch: u64) -> Turn
     ensures { λ r. ⌜ r ≡ turnTo 0 len (beforeList (now (rows .entry)) n dag epoch) ⌝ }
 {
     turn_to(0, len, judge_before(rows, n, dag, epoch))
 }
 
 // The record at place i.
-fn next_turn(a: Assigned, rows: &[u64], n: usize, i: usize, len: usize) -> Turn
+pub fn next_turn(a: Assigned, rows: &[u64], n: usize, i: usize, len: usize) -> Turn
     requires { ⌜ (i < len) × (badHeldRows (now rows) n ≡ false) ⌝ }
     ensures { λ r. ⌜ r ≡ turnTo (i + 1) len (assignedRule (heads heldWidth (now (rows .entry)) n 0) a) ⌝ }
 {

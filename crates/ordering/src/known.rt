@@ -19,7 +19,7 @@ pub fn known_row(rows: &[u64], edges: &[u64], h: usize, g: usize, id: u64) -> Fo
 }
 
 // Where the edges of row r begin; g is how many edge words the h rows have.
-fn edge_start(rows: &[u64], h: usize, g: usize, r: usize) -> usize
+pub fn edge_start(rows: &[u64], h: usize, g: usize, r: usize) -> usize
     requires { ⌜ (r < h) × (h * heldWidth ≤ length (now rows)) × (edgesFrom heldWidth (now rows) h 0 ≡ g) ⌝ }
     ensures { λ k. ⌜ k ≡ startOf heldWidth (now (rows .entry)) r ⌝ }
 {

@@ -11,7 +11,7 @@ use types::records::RowIndex;
 use types::records::SegmentId;
 use words::Found;
 
-mod known;
+pub mod known;
 
 // May the segment be read, now that the segments of `history` were owned here and those of `completed` read to their end? The held tables
 // have h rows and g edge words. 51's list, or the incomplete ancestors, go to the front of the first list, remote ones to the second.
