@@ -6,6 +6,7 @@ pub mod face;
 pub mod grow;
 pub mod lent;
 pub mod library;
+pub mod listing;
 pub mod reading;
 pub mod rng;
 pub mod run;

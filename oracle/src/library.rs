@@ -360,8 +360,7 @@ pub fn fixed_calls() -> Result<u64, String> {
 }
 
 /// "A fixed table gives, for each number 0 to 63, its family and how many values it carries, 51's list not counted."
-#[cfg(has_fixed)]
-fn kind(number: u64) -> Kind {
+pub fn kind(number: u64) -> Kind {
     let family = match number {
         1 | 2 => 1,
         3..=36 => 2,

@@ -1,7 +1,8 @@
-//! oracle [COUNT | SECONDSs] [SEED] [small] [pages] [story=N]
+//! oracle [COUNT | SECONDSs] [SEED] [small] [pages] [story=N] [listing=N]
 //!
 //! Plays stories until COUNT answers were compared or SECONDS have passed, and prints how often each answer was met. `small` runs all
-//! small layouts first; `pages` lends every area between pages that may not be touched; `story` plays one story alone.
+//! small layouts first; `pages` lends every area between pages that may not be touched; `story` plays one story alone;
+//! `listing` runs the listing program (its command stands in THRESHPETAL_LISTING) on that many inputs instead, text against text.
 
 use oracle::calls::*;
 use oracle::face::*;
@@ -10,7 +11,7 @@ use oracle::library::*;
 use oracle::rng::Rng;
 use oracle::run::Run;
 use oracle::story::*;
-use oracle::{grow, shapes, shrink, small, spoil};
+use oracle::{grow, listing, shapes, shrink, small, spoil};
 use std::time::{Duration, Instant};
 
 struct Wish {
@@ -20,10 +21,11 @@ struct Wish {
     small: bool,
     pages: bool,
     story: Option<u64>,
+    listing: Option<u64>,
 }
 
 fn wish() -> Wish {
-    let mut w = Wish { answers: 200_000, time: None, seed: 1, small: false, pages: false, story: None };
+    let mut w = Wish { answers: 200_000, time: None, seed: 1, small: false, pages: false, story: None, listing: None };
     let mut numbers = 0;
     for a in std::env::args().skip(1) {
         if a == "small" {
@@ -32,6 +34,8 @@ fn wish() -> Wish {
             w.pages = true;
         } else if let Some(n) = a.strip_prefix("story=") {
             w.story = n.parse().ok();
+        } else if let Some(n) = a.strip_prefix("listing=") {
+            w.listing = n.parse().ok();
         } else if let Some(s) = a.strip_suffix('s').and_then(|s| s.parse().ok()) {
             w.time = Some(Duration::from_secs(s));
             w.answers = u64::MAX;
@@ -40,7 +44,7 @@ fn wish() -> Wish {
             if numbers == 0 { w.answers = n } else { w.seed = n }
             numbers += 1;
         } else {
-            eprintln!("usage: oracle [COUNT | SECONDSs] [SEED] [small] [pages] [story=N]");
+            eprintln!("usage: oracle [COUNT | SECONDSs] [SEED] [small] [pages] [story=N] [listing=N]");
             std::process::exit(2);
         }
     }
@@ -185,8 +189,46 @@ fn report(run: &mut Run, seed: u64, what: &str) -> ! {
     std::process::exit(1);
 }
 
+/// Inputs for the listing program; the first difference, with as few lines as still show it, ends it.
+fn listings(seed: u64, count: u64) -> ! {
+    let Ok(command) = std::env::var("THRESHPETAL_LISTING") else {
+        println!("THRESHPETAL_LISTING: the command that runs the listing program");
+        std::process::exit(2);
+    };
+    let differs = |input: &str| {
+        let (want, got) = (listing::answer(input), listing::program(&command, input).expect("the listing program"));
+        (want != got).then_some((want, got))
+    };
+    let mut lines = 0;
+    for n in 0..count {
+        let mut input = listing::script(&mut Rng::of_story(seed, n));
+        if let Some(mut found) = differs(&input) {
+            let mut i = 0;
+            while i < input.lines().count() {
+                let less: String = input.lines().enumerate().filter(|(k, _)| *k != i).map(|(_, l)| format!("{l}\n")).collect();
+                if let Some(f) = differs(&less) {
+                    (input, found) = (less, f);
+                } else {
+                    i += 1;
+                }
+            }
+            println!("DIFFERENCE in input {n} of seed {seed}:\n{input}\nexpected\n{}\nprinted\n{}", found.0, found.1);
+            std::process::exit(1);
+        }
+        lines += listing::answer(&input).lines().count();
+        if n % 50 == 0 {
+            eprint!("\r{n} inputs, {lines} lines, no difference   ");
+        }
+    }
+    println!("\n{count} inputs, {lines} lines printed, seed {seed}: no difference");
+    std::process::exit(0);
+}
+
 fn main() {
     let w = wish();
+    if let Some(n) = w.listing {
+        listings(w.seed, n);
+    }
     let mut library = Library::new(if w.pages { None } else { Some(Fence::Words) });
     let fixed = match fixed_calls() {
         Ok(n) => n,

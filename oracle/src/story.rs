@@ -188,7 +188,10 @@ fn bad_try(rng: &mut Rng, run: &mut Run, world: &World, held: &mut Holding) {
     worsen(rng, &mut c.tables);
     match rng.below(24) {
         0 => c.update.session = if rng.one_in(2) { rng.next() } else { c.update.session.wrapping_add(1) },
-        1 => c.update.layout = false,
+        1 => {
+            c.update.layout = false;
+            c.update.error = rng.one_in(2);
+        }
         2 => c.update.epoch = rng.within(0, c.session.epoch),
         3 => {
             // a session that holds none may have anything where its counts stand
@@ -206,7 +209,7 @@ fn bad_try(rng: &mut Rng, run: &mut Run, world: &World, held: &mut Holding) {
             c.update.size =
                 *rng.pick(&[0, u64::MAX, limits.size, limits.size.wrapping_add(1), limits.size.wrapping_sub(1)]);
         }
-        5 if c.session.held => {
+        5..=7 if c.session.held => {
             let (mut h, mut g) = (c.session.rows, c.session.edges);
             let (mut rows, mut edges) = (std::mem::take(&mut c.areas.held), std::mem::take(&mut c.areas.links));
             damage_held(rng, &mut rows, &mut edges, &mut h, &mut g);
