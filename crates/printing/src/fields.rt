@@ -1,6 +1,5 @@
 // Lines are a letter, each field after a space, and the line's end.
-ghost use mathlib.Core.Path.{_≡_};
-ghost use mathlib.Core.List.{List, [], _∷_, _++_};
+ghost use mathlib.Core.List.{[], _∷_, _++_};
 ghost use Rattle.texts.specs.Decimal.{decimal};
 ghost use Rattle.texts.specs.CommaList.{listed, pairsListed};
 ghost use Rattle.printing.specs.Shown.{spaced, line};

@@ -1,6 +1,4 @@
 // An ordering query's answer, `B` incomplete, remote; `E`; `M` remote; or a refusal, 51 with its list. And a line that can't be read.
-ghost use mathlib.Core.Path.{_≡_};
-ghost use mathlib.Core.List.{List, [], _∷_, _++_};
 ghost use Rattle.printing.specs.Shown.{shownUnprovable, shownBlocked, shownManaged, shownOrdering, shownUnreadable};
 ghost use Rattle.texts.specs.Written.{Wrote};
 use crate::fields::field_list;

@@ -1,7 +1,6 @@
 // `R` number, values.
-ghost use mathlib.Core.Path.{_≡_};
-ghost use mathlib.Core.Bool.{Bool, true, false, cond};
-ghost use mathlib.Core.List.{List, [], _∷_, _++_};
+ghost use mathlib.Core.Bool.{cond};
+ghost use mathlib.Core.List.{[], _∷_};
 ghost use lib.Dec.{ltb};
 ghost use Rattle.texts.specs.Decimal.{decimal};
 ghost use Rattle.printing.specs.Shown.{spaced, firstText, valueTexts, shownRefusal};

@@ -1,6 +1,6 @@
 // An update's answer: `A` epoch, order, added, removed, splits, merges, reason letter, handover; `T`; or a refusal.
 ghost use mathlib.Core.Path.{_≡_};
-ghost use mathlib.Core.List.{List, [], _∷_, _++_};
+ghost use mathlib.Core.List.{[], _∷_, _++_};
 ghost use Rattle.texts.specs.Decimal.{decimal};
 ghost use Rattle.printing.specs.Shown.{spaced, letterOf, splitsListed, mergesListed, shownAccepted, shownUpdated};
 ghost use Rattle.texts.specs.Written.{Wrote};

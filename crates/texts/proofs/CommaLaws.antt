@@ -11,7 +11,7 @@ use lib.ListN.{length, getD, take, drop, length-map, List·getD-map}
 use lib.Seq.{take-suc, take-all, take-length}
 use Rattle.lists.proofs.Cases.{lt-or-le}
 use Rattle.texts.specs.Decimal.{decimal}
-use Rattle.texts.specs.CommaList.{commasAfter, commas, listed, pairTexts, pairsListed}
+use Rattle.texts.specs.CommaList.{commasAfter, commas, pairTexts}
 use Rattle.texts.specs.Written.{Wrote}
 use Rattle.texts.proofs.Writing.{kept, nothing, on, said}
 

@@ -3,12 +3,12 @@
 use Prim.Native.Nat.{ℕ, suc, _+_, _≤_, _<_, min}
 use mathlib.Core.Path.{_≡_, refl, sym, ap, _∙_}
 use mathlib.Core.Logic.{⊎-elim}
-use mathlib.Core.List.{List, [], _∷_, _++_, append-assoc, append-nil}
+use mathlib.Core.List.{List, [], _∷_, _++_}
 use native.Mathlib.Omega.{arith}
 use native.Mathlib.Nat.{min-eq-left, min-eq-right}
 use native.Mathlib.Numerals.{add-one}
-use lib.ListN.{length, getD, set, take, drop, length-append, length-set}
-use lib.Seq.{sets, length-sets, sets-eq, set-out, take-at, take-suc}
+use lib.ListN.{length, getD, set, take, length-append}
+use lib.Seq.{length-sets, sets-eq, set-out, take-at, take-suc}
 use Rattle.lists.proofs.Cases.{lt-or-le}
 use Rattle.texts.specs.Written.{written, Wrote}
 
@@ -70,3 +70,14 @@ byte-on bytes i h w v = rw (add-one, take-suc bytes i 0) (on w v)
 -- what stands at the front of an area that had room
 pub front-is : (area bytes : List ℕ) → length bytes ≤ length area → take (length bytes) (written area 0 bytes) ≡ bytes
 front-is area bytes h = ap (take (length bytes)) (sets-eq bytes area 0 (omega arith)) ∙ take-at bytes _ _ refl
+
+-- a line written from the front of an area that has room for it: it stands there whole
+pub whole : {area bytes after : List ℕ} {r : ℕ} → Wrote area 0 bytes after r → length bytes ≤ length area
+    → (r ≡ length bytes) × (take r after ≡ bytes)
+whole {area} {bytes} {after} {r} w h =
+    let e : r ≡ length bytes = omega (arith, w .stands) in
+    (e, ap (λ (k : ℕ). take k after) e ∙ ap (take (length bytes)) (w .holds) ∙ front-is area bytes h)
+
+-- two answers that satisfy the promise are equal, and so are the areas
+pub unique : {area : List ℕ} {at : ℕ} {bytes x : List ℕ} {p : ℕ} {y : List ℕ} {q : ℕ} → Wrote area at bytes x p → Wrote area at bytes y q → (x ≡ y) × (p ≡ q)
+unique w v = (w .holds ∙ sym (v .holds), w .stands ∙ sym (v .stands))

@@ -1,6 +1,6 @@
 // Bytes into a lent area, from a place on. A call answers the place after its bytes, which is the area's end where there is no room for them.
 ghost use mathlib.Core.Path.{_≡_};
-ghost use mathlib.Core.List.{List, [], _∷_};
+ghost use mathlib.Core.List.{[], _∷_};
 ghost use Prim.Native.Nat.{min};
 ghost use lib.ListN.{length};
 ghost use Rattle.texts.specs.Written.{Wrote};

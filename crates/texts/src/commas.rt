@@ -1,6 +1,6 @@
 // Comma lists of numbers and of pairs; `-` where there is none.
 ghost use mathlib.Core.Path.{_≡_};
-ghost use mathlib.Core.List.{List, [], _∷_, _++_};
+ghost use mathlib.Core.List.{_∷_, _++_};
 ghost use Prim.Native.Nat.{min};
 ghost use Rattle.texts.specs.Decimal.{decimal};
 ghost use Rattle.texts.specs.CommaList.{listed, pairsListed};
