@@ -43,7 +43,7 @@ module _ (w w₁ : List ℕ) (n e epoch h : ℕ) (a : Areas) (c : Changes) (same
       let room : n * heldWidth + e ≤ pairsAt n e = omega arith in
       record {
         delta = ed;
-        cleared = ew ∙ ap (λ (k : ℕ). replicate k 0) same;
+        emptied = ew ∙ ap (λ (k : ℕ). replicate k 0) same;
         rows-held = eh ∙ ap (λ (q : List ℕ). front q (a .held)) (rows-kept w₁ w (pairsAt n e) kept n e room);
         edges-held = el ∙ ap (λ (q : List ℕ). front q (a .links)) (edges-kept w₁ w (pairsAt n e) kept n e room);
         order-held = eo ∙ ap (λ (q : List ℕ). front q (a .order)) (part-kept w₁ w (pairsAt n e) kept (orderAt n e) n (omega arith));
@@ -60,7 +60,7 @@ module _ (j : Judged) (w : List ℕ) (n e epoch h : ℕ) (a : Areas) (c : Change
   accepted told d w′ held′ links′ order′ added′ removed′ splits′ merges′ s =
       record {
         answer = rw told (ap U.Accepted (s .delta));
-        cleared = s .cleared;
+        cleared = s .emptied;
         rows-held = rw told (s .rows-held);
         edges-held = rw told (s .edges-held);
         order-held = rw told (s .order-held);

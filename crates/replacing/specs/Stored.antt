@@ -53,7 +53,7 @@ storedFrom w n e a =
 -- what accepting it leaves
 pub record Stored (w : List ℕ) (n e epoch h : ℕ) (a : Areas) (c : Changes) (d : DagDelta) (w′ held′ links′ order′ added′ removed′ splits′ merges′ : List ℕ) : Type 0 where
   pub delta : d ≡ deltaFrom epoch (heldBefore h a) (imageSegments w n e)
-  pub cleared : w′ ≡ replicate (length w) 0
+  pub emptied : w′ ≡ replicate (length w) 0
   pub rows-held : held′ ≡ storedFrom w n e a .held
   pub edges-held : links′ ≡ storedFrom w n e a .links
   pub order-held : order′ ≡ storedFrom w n e a .order

@@ -23,7 +23,7 @@ add-at-2 c = search needs
 write-delta-requires : tie.Need-write-delta-requires
 write-delta-requires c κs =
     let p = c .before .before .before .before .before .before .before .before .before .before .before .before .before .before .pre in
-    (p .0 .image, (omega arith, (p .0 .room, (p .0 .widths, (p .1 .old, (p .1 .added, (p .1 .removed, (p .1 .splits, p .1 .merges))))))))
+    (p .0 .image, (omega arith, (omega (arith, p .0 .room), (p .0 .widths, (p .1 .old, (p .1 .added, (p .1 .removed, (p .1 .splits, p .1 .merges))))))))
 
 store-requires : tie.Need-store-requires
 store-requires c κs =
