@@ -10,3 +10,5 @@ pub mod Chain
 pub mod Segments
 pub mod Queries
 pub mod Told
+pub mod Keeping
+pub mod Examples

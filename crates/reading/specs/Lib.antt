@@ -2,3 +2,4 @@ pub mod Numbers
 pub mod Fields
 pub mod Lists
 pub mod Lines
+pub mod Kept

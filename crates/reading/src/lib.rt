@@ -2,6 +2,7 @@
 // line of bytes; the program prints and keeps order.
 pub mod fields;
 mod items;
+pub mod kept;
 pub mod lines;
 pub mod lists;
 pub mod numbers;
