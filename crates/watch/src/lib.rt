@@ -104,3 +104,79 @@ pub fn update(
         merges,
     )
 }
+
+// The session is updated where it stands, under the caller's limits.
+pub fn handle_update_with_limits(
+    session: &mut Session,
+    update: Update,
+    limits: DagLimits,
+    rows: &[u64],
+    edges: &[u64],
+    places: &[u64],
+    work: &mut [u64],
+    held: &mut [u64],
+    links: &mut [u64],
+    order: &mut [u64],
+    added: &mut [u64],
+    removed: &mut [u64],
+    splits: &mut [u64],
+    merges: &mut [u64],
+) -> Updated
+    ensures { λ r. ⌜ Owed (now (session .entry)) update limits (tablesOf (now (rows .entry)) (now (edges .entry)) (now (places .entry))) (now (work .entry)) (areasOf (now (held .entry)) (now (links .entry)) (now (order .entry))) (changesOf (now (added .entry)) (now (removed .entry)) (now (splits .entry)) (now (merges .entry))) r (now (session .exit)) (now (work .exit)) (now (held .exit)) (now (links .exit)) (now (order .exit)) (now (added .exit)) (now (removed .exit)) (now (splits .exit)) (now (merges .exit)) ⌝ }
+{
+    let u = update_with_limits(
+        *session,
+        update,
+        limits,
+        rows,
+        edges,
+        places,
+        work,
+        held,
+        links,
+        order,
+        added,
+        removed,
+        splits,
+        merges,
+    );
+    *session = u.session;
+    u.answer
+}
+
+// `handle_update` of the Rust: the same under the default limits.
+pub fn handle_update(
+    session: &mut Session,
+    update: Update,
+    rows: &[u64],
+    edges: &[u64],
+    places: &[u64],
+    work: &mut [u64],
+    held: &mut [u64],
+    links: &mut [u64],
+    order: &mut [u64],
+    added: &mut [u64],
+    removed: &mut [u64],
+    splits: &mut [u64],
+    merges: &mut [u64],
+) -> Updated
+    ensures { λ r. ⌜ Owed (now (session .entry)) update defaultLimits (tablesOf (now (rows .entry)) (now (edges .entry)) (now (places .entry))) (now (work .entry)) (areasOf (now (held .entry)) (now (links .entry)) (now (order .entry))) (changesOf (now (added .entry)) (now (removed .entry)) (now (splits .entry)) (now (merges .entry))) r (now (session .exit)) (now (work .exit)) (now (held .exit)) (now (links .exit)) (now (order .exit)) (now (added .exit)) (now (removed .exit)) (now (splits .exit)) (now (merges .exit)) ⌝ }
+{
+    let u = crate::update(
+        *session,
+        update,
+        rows,
+        edges,
+        places,
+        work,
+        held,
+        links,
+        order,
+        added,
+        removed,
+        splits,
+        merges,
+    );
+    *session = u.session;
+    u.answer
+}
