@@ -1,5 +1,7 @@
 pub mod Capped
+pub mod Enough
 pub mod Spans
+pub mod Unique
 pub mod Updated
 pub mod Walk
 pub mod Words
