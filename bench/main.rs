@@ -6,7 +6,7 @@ use original::types::SegmentId;
 use oracle::expected::size_of;
 use oracle::face::*;
 use oracle::lent::Fence;
-use oracle::library::{HAS_UPDATE, Loan};
+use oracle::library::Loan;
 use oracle::reading;
 use oracle::shapes::SHAPES;
 use oracle::tables::*;
@@ -71,14 +71,14 @@ impl Case {
         Self { layout, tables, limits, size, dag }
     }
 
-    /// What the library is lent for a judgement or, with h held rows, an update.
-    fn loan(&self, fence: Fence, h: usize, areas: usize) -> Loan {
+    /// What the library is lent for an update on a session that holds as many rows.
+    fn loan(&self, fence: Fence) -> Loan {
         let (n, p, k) = self.tables.counts();
         let mut l = Loan::new(fence);
         l.read("rows", &self.tables.rows);
         l.read("edges", &self.tables.edges);
         l.read("places", &self.tables.places);
-        for (name, need) in oracle::calls::AREA_NAMES.iter().zip(reading::needs_to_update(n, p, k, h)).take(areas) {
+        for (name, need) in oracle::calls::AREA_NAMES.iter().zip(reading::needs_to_update(n, p, k, n)) {
             l.lend(name, &vec![9; need as usize]);
         }
         l
@@ -88,9 +88,9 @@ impl Case {
 impl Bench {
     /// Microseconds of one update by the Rust: `handle_update` on a session that holds the same layout one epoch older. Its limits are
     /// fixed, so beyond them it is the judgement alone, by `try_from_pb_with_limits`.
-    fn rust(&self, c: &Case, update: bool) -> f64 {
+    fn rust(&self, c: &Case) -> f64 {
         let limits = wire::limits(c.limits);
-        if !update || c.limits != Limits::DEFAULT {
+        if c.limits != Limits::DEFAULT {
             return clock(self.budget, || {
                 black_box(DagSnapshot::try_from_pb_with_limits(black_box(&c.dag), limits).expect("accepted"));
             });
@@ -110,23 +110,15 @@ impl Bench {
         })
     }
 
-    /// Microseconds of one update, or judgement, by the library, and the words lent.
-    fn library(&self, c: &Case, update: bool) -> (f64, usize) {
-        let n = c.layout.segments.len();
-        if !update {
-            let mut l = c.loan(self.fence, 0, 4);
-            let time = clock(self.budget, || {
-                assert!(black_box(l.judge(c.layout.epoch, c.size, &c.limits)).number == 0);
-            });
-            return (time, l.words_lent());
-        }
-        let mut l = c.loan(self.fence, n, 8);
+    /// Microseconds of one update by the library, on a session that holds the same layout one epoch older, and the words lent.
+    fn library(&self, c: &Case) -> (f64, usize) {
+        let mut l = c.loan(self.fence);
         let mut session = Session { id: 1, ..Session::default() };
         let mut message = Update { session: 1, layout: true, epoch: c.layout.epoch, size: c.size, ..Update::default() };
-        assert!(l.update(&mut session, &message, &c.limits).outcome == 2);
+        assert!(l.update(&mut session, message, c.limits).outcome == 2);
         let time = clock(self.budget, || {
             message.epoch += 1;
-            assert!(black_box(l.update(&mut session, &message, &c.limits)).outcome == 2);
+            assert!(black_box(l.update(&mut session, message, c.limits)).outcome == 2);
         });
         (time, l.words_lent())
     }
@@ -196,7 +188,7 @@ fn growth(small: f64, big: f64) -> f64 {
 type Line = (String, Vec<(usize, f64, f64)>);
 
 /// Two panels, both with logarithmic axes: microseconds (the library drawn through, the Rust dashed), and the ratio.
-fn plot(lines: &[Line], what: &str) -> String {
+fn plot(lines: &[Line]) -> String {
     const COLOURS: [&str; 5] = ["#1b6ca8", "#c0392b", "#2e8b57", "#8e44ad", "#d68910"];
     let mut s = String::from(
         "<svg xmlns=\"http://www.w3.org/2000/svg\" viewBox=\"0 0 1000 440\" font-family=\"sans-serif\" font-size=\"12\">\n<rect width=\"1000\" height=\"440\" fill=\"white\"/>\n",
@@ -205,7 +197,7 @@ fn plot(lines: &[Line], what: &str) -> String {
     let scale = |v: f64, low: f64, high: f64| 380.0 - (v.log10() - low) / (high - low) * 330.0;
     let time = |v: f64| scale(v, 0.0, 7.0);
     let ratio = |v: f64| scale(v, -1.5, 1.5);
-    for (panel, title) in [(70.0, format!("{what}, microseconds (Rust dashed)")), (570.0, String::from("library / Rust (grey: the goal at 4,096 rows)"))] {
+    for (panel, title) in [(70.0, String::from("update, microseconds (Rust dashed)")), (570.0, String::from("library / Rust (grey: the goal at 4,096 rows)"))] {
         let _ = writeln!(s, "<text x=\"{panel}\" y=\"30\" font-size=\"14\">{title}</text>");
         let _ = writeln!(s, "<rect x=\"{panel}\" y=\"50\" width=\"380\" height=\"330\" fill=\"none\" stroke=\"#888\"/>");
         for n in SIZES {
@@ -241,17 +233,13 @@ fn plot(lines: &[Line], what: &str) -> String {
 fn main() {
     let args: Vec<String> = std::env::args().skip(1).collect();
     let quick = args.iter().any(|a| a == "quick");
+    let updates = args.iter().any(|a| a == "updates");
     let pages = args.iter().any(|a| a == "pages");
     let fences: &[Fence] = if pages { &[Fence::PageAfter, Fence::PageBefore] } else { &[Fence::Words] };
-    let update = HAS_UPDATE;
-    let what = if update { "update" } else { "judge" };
     let sizes = &SIZES[..if quick { 3 } else { 5 }];
-    if !update {
-        println!("the archive has no update yet: the judge is timed in its place, on both sides");
-    }
     for fence in fences {
         let b = Bench { budget: Duration::from_millis(if quick { 40 } else { 400 }), fence: *fence };
-        println!("\n| {what} | rows | Rust, us | library, us | ratio | words lent | words cleared |\n|---|---|---|---|---|---|---|");
+        println!("\n| update | rows | Rust, us | library, us | ratio | words lent | words cleared |\n|---|---|---|---|---|---|---|");
         let mut lines: Vec<Line> = Vec::new();
         for (name, make) in SHAPES {
             let mut points = Vec::new();
@@ -259,9 +247,9 @@ fn main() {
                 let c = Case::new(make(*n));
                 assert_eq!(c.layout.segments.len(), *n);
                 let (p, k) = (c.tables.counts().1, c.tables.counts().2);
-                let rust = b.rust(&c, update);
-                let (library, lent) = b.library(&c, update);
-                let cleared = 32 * (n + p + k + if update { *n } else { 0 });
+                let rust = b.rust(&c);
+                let (library, lent) = b.library(&c);
+                let cleared = 32 * (n + p + k + n);
                 println!("| {name} | {n} | {rust:.1} | {library:.1} | {:.2} | {lent} | {cleared} |", library / rust);
                 points.push((*n, rust, library));
             }
@@ -274,6 +262,9 @@ fn main() {
             let (mine, its) = at(65_536).map_or((f64::NAN, f64::NAN), |q| (growth(p.2, q.2), growth(p.1, q.1)));
             println!("| {name} | {:.2} | {mine:.2} | {its:.2} |", p.2 / p.1);
         }
+        if updates {
+            continue;
+        }
         println!("\n| ordering | rows | Rust, us | library, us | floor, us | to the Rust | to the floor (goal 1.5) | all: Rust, us | all: library, us | ratio | words cleared |\n|---|---|---|---|---|---|---|---|---|---|---|");
         for (name, make) in SHAPES {
             for n in &[64, 4_096, 65_536][..if quick { 2 } else { 3 }] {
@@ -281,7 +272,7 @@ fn main() {
             }
         }
         if !pages && !quick {
-            std::fs::write(&args[0], plot(&lines, what)).expect("the plot");
+            std::fs::write(&args[0], plot(&lines)).expect("the plot");
             println!("\nwritten: {}", args[0]);
         }
     }

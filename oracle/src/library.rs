@@ -3,65 +3,58 @@
 use crate::calls::*;
 use crate::face::*;
 use crate::lent::{Fence, Lent};
+use crate::reading;
+use crate::rng::Rng;
 use crate::tables::Tables;
 
 /// Something that can be asked what the library can be asked.
 pub trait Subject {
-    /// Whether it has the call at all.
-    fn has(&self, call: &Call) -> bool;
     fn ask(&mut self, call: &Call) -> Outcome;
 }
 
+// bindings/c/threshpetal.h
 mod c {
     use crate::face::*;
 
-    // oracle/shim.c: the C face with pointers and numbers alone.
     unsafe extern "C" {
-        pub fn oracle_judge(
-            epoch: u64, size: u64, limits: *const Limits,
+        pub fn threshpetal_judge(
+            epoch: u64, size: u64, limits: Limits,
             rows: *const u64, rows_len: usize, edges: *const u64, edges_len: usize, places: *const u64, places_len: usize,
             work: *mut u64, work_len: usize, held: *mut u64, held_len: usize, links: *mut u64, links_len: usize,
-            order: *mut u64, order_len: usize, out: *mut Refusal,
-        );
-        pub fn oracle_order(
-            rows: *const u64, rows_len: usize, edges: *const u64, edges_len: usize, h: usize, g: usize, managed: u64, segment: u64,
-            history: *const u64, history_len: usize, completed: *const u64, completed_len: usize,
-            work: *mut u64, work_len: usize, first: *mut u64, first_len: usize, second: *mut u64, second_len: usize, out: *mut Ordering,
-        );
-        #[cfg(has_update)]
-        pub fn oracle_update(
-            session: *mut Session, update: *const Update, limits: *const Limits,
+            order: *mut u64, order_len: usize,
+        ) -> Refusal;
+        pub fn threshpetal_handle_update(
+            session: *mut Session, update: Update, limits: Limits,
             rows: *const u64, rows_len: usize, edges: *const u64, edges_len: usize, places: *const u64, places_len: usize,
             work: *mut u64, work_len: usize, held: *mut u64, held_len: usize, links: *mut u64, links_len: usize,
             order: *mut u64, order_len: usize, added: *mut u64, added_len: usize, removed: *mut u64, removed_len: usize,
-            splits: *mut u64, splits_len: usize, merges: *mut u64, merges_len: usize, out: *mut Updated,
-        );
-        #[cfg(has_stretch)]
-        pub fn oracle_stretch(
-            parents: u64, rows: *const u64, rows_len: usize, edges: *const u64, edges_len: usize, h: usize, g: usize, segment: u64,
-            out: *mut Stretch,
-        );
-        #[cfg(has_assignment)]
-        pub fn oracle_assign(
+            splits: *mut u64, splits_len: usize, merges: *mut u64, merges_len: usize,
+        ) -> Updated;
+        pub fn threshpetal_ordering_eligibility(
+            rows: *const u64, rows_len: usize, edges: *const u64, edges_len: usize, h: usize, g: usize, managed: bool, segment: u64,
+            history: *const u64, history_len: usize, completed: *const u64, completed_len: usize,
+            work: *mut u64, work_len: usize, first: *mut u64, first_len: usize, second: *mut u64, second_len: usize,
+        ) -> Ordering;
+        pub fn threshpetal_parents_of(
+            rows: *const u64, rows_len: usize, edges: *const u64, edges_len: usize, h: usize, g: usize, segment: u64,
+        ) -> Stretch;
+        pub fn threshpetal_children_of(
+            rows: *const u64, rows_len: usize, edges: *const u64, edges_len: usize, h: usize, g: usize, segment: u64,
+        ) -> Stretch;
+        pub fn threshpetal_validate_assignment(
             list: *const Assigned, list_len: usize, rows: *const u64, rows_len: usize, n: usize, dag_epoch: u64, epoch: u64,
-            out: *mut Refusal,
-        );
-        #[cfg(has_fixed)]
-        pub fn oracle_fixed(number: u64, out: *mut Kind, defaults: *mut Limits);
-        #[cfg(has_names)]
-        pub fn oracle_names(id: u64, s: *const Session, fresh: *mut Session, resolved: *mut u64, names: *mut Name);
-        #[cfg(has_needs)]
-        pub fn oracle_needs(n: usize, p: usize, k: usize, h: usize, to_update: *mut UpdateNeeds, to_order: *mut OrderingNeeds);
+        ) -> Refusal;
+        pub safe fn threshpetal_kind_of(number: u64) -> Kind;
+        pub safe fn threshpetal_default_limits() -> Limits;
+        pub safe fn threshpetal_new_session(id: u64) -> Session;
+        pub safe fn threshpetal_is_resolved(s: Session) -> bool;
+        pub safe fn threshpetal_resolved_name(s: Session) -> Name;
+        pub safe fn threshpetal_controller_url(s: Session) -> Name;
+        pub safe fn threshpetal_controller_url_tls(s: Session) -> Name;
+        pub safe fn threshpetal_needs_to_update(n: usize, p: usize, k: usize, h: usize) -> UpdateNeeds;
+        pub safe fn threshpetal_needs_to_order(h: usize, g: usize) -> OrderingNeeds;
     }
 }
-
-/// Which of the library's calls the linked archive has, beside the judge and the ordering query.
-pub const HAS_UPDATE: bool = cfg!(has_update);
-pub const HAS_STRETCH: bool = cfg!(has_stretch);
-pub const HAS_ASSIGNMENT: bool = cfg!(has_assignment);
-pub const HAS_FIXED: bool = cfg!(has_fixed);
-pub const HAS_NAMES: bool = cfg!(has_names);
-pub const HAS_NEEDS: bool = cfg!(has_needs);
 
 /// The tables of one call that are only read and the areas that are lent, each between fences, in the order of the C face.
 pub struct Loan {
@@ -113,83 +106,56 @@ impl Loan {
     }
 
     /// Rows, edges, places; work, held rows, held edges, order.
-    pub fn judge(&mut self, epoch: u64, size: u64, limits: &Limits) -> Refusal {
+    pub fn judge(&mut self, epoch: u64, size: u64, limits: Limits) -> Refusal {
         let (r, e, p) = (self.t(0), self.t(1), self.t(2));
         let a: [_; 4] = std::array::from_fn(|i| self.a(i));
-        let mut out = Refusal::NONE;
         // SAFETY: every pointer stands for as many words as its length says, and the areas are apart.
         unsafe {
-            c::oracle_judge(
+            c::threshpetal_judge(
                 epoch, size, limits, r.0, r.1, e.0, e.1, p.0, p.1,
-                a[0].0, a[0].1, a[1].0, a[1].1, a[2].0, a[2].1, a[3].0, a[3].1, &mut out,
-            );
+                a[0].0, a[0].1, a[1].0, a[1].1, a[2].0, a[2].1, a[3].0, a[3].1,
+            )
         }
-        out
     }
 
     /// The same, and added, removed, splits, merges.
-    #[cfg(has_update)]
-    pub fn update(&mut self, session: &mut Session, update: &Update, limits: &Limits) -> Updated {
+    pub fn update(&mut self, session: &mut Session, update: Update, limits: Limits) -> Updated {
         let (r, e, p) = (self.t(0), self.t(1), self.t(2));
         let a: [_; 8] = std::array::from_fn(|i| self.a(i));
-        let mut out = Updated::default();
         // SAFETY: as above.
         unsafe {
-            c::oracle_update(
+            c::threshpetal_handle_update(
                 session, update, limits, r.0, r.1, e.0, e.1, p.0, p.1,
                 a[0].0, a[0].1, a[1].0, a[1].1, a[2].0, a[2].1, a[3].0, a[3].1,
-                a[4].0, a[4].1, a[5].0, a[5].1, a[6].0, a[6].1, a[7].0, a[7].1, &mut out,
-            );
+                a[4].0, a[4].1, a[5].0, a[5].1, a[6].0, a[6].1, a[7].0, a[7].1,
+            )
         }
-        out
-    }
-
-    #[cfg(not(has_update))]
-    pub fn update(&mut self, _: &mut Session, _: &Update, _: &Limits) -> Updated {
-        unreachable!("the archive has no update")
     }
 
     /// Held rows, held edges, history, completed; work and the two lists.
     pub fn order(&mut self, h: usize, g: usize, managed: bool, segment: u64) -> Ordering {
         let t: [_; 4] = std::array::from_fn(|i| self.t(i));
         let (w, f, s) = (self.a(0), self.a(1), self.a(2));
-        let mut out = Ordering::default();
         // SAFETY: as above.
         unsafe {
-            c::oracle_order(
-                t[0].0, t[0].1, t[1].0, t[1].1, h, g, u64::from(managed), segment,
-                t[2].0, t[2].1, t[3].0, t[3].1, w.0, w.1, f.0, f.1, s.0, s.1, &mut out,
-            );
+            c::threshpetal_ordering_eligibility(
+                t[0].0, t[0].1, t[1].0, t[1].1, h, g, managed, segment,
+                t[2].0, t[2].1, t[3].0, t[3].1, w.0, w.1, f.0, f.1, s.0, s.1,
+            )
         }
-        out
     }
 
-    #[cfg(has_stretch)]
     fn stretch(&mut self, s: &StretchCall) -> Stretch {
         let (r, e) = (self.t(0), self.t(1));
-        let mut out = Stretch::default();
+        let call = if s.parents { c::threshpetal_parents_of } else { c::threshpetal_children_of };
         // SAFETY: as above.
-        unsafe { c::oracle_stretch(u64::from(s.parents), r.0, r.1, e.0, e.1, s.h, s.g, s.segment, &mut out) };
-        out
+        unsafe { call(r.0, r.1, e.0, e.1, s.h, s.g, s.segment) }
     }
 
-    #[cfg(not(has_stretch))]
-    fn stretch(&mut self, _: &StretchCall) -> Stretch {
-        unreachable!("the archive has no parents and children")
-    }
-
-    #[cfg(has_assignment)]
     fn assign(&mut self, a: &AssignCall) -> Refusal {
         let (l, r) = (self.t(0), self.t(1));
-        let mut out = Refusal::NONE;
         // SAFETY: as above; a record is two words.
-        unsafe { c::oracle_assign(l.0.cast(), a.list.len(), r.0, r.1, a.n, a.dag_epoch, a.epoch, &mut out) };
-        out
-    }
-
-    #[cfg(not(has_assignment))]
-    fn assign(&mut self, _: &AssignCall) -> Refusal {
-        unreachable!("the archive has no assignment")
+        unsafe { c::threshpetal_validate_assignment(l.0.cast(), a.list.len(), r.0, r.1, a.n, a.dag_epoch, a.epoch) }
     }
 }
 
@@ -228,7 +194,7 @@ impl Library {
             Call::Judge(j) => {
                 let t = &j.tables;
                 let mut l = self.layout_loan(t, &j.areas, 4);
-                let refusal = l.judge(j.epoch, j.size, &j.limits);
+                let refusal = l.judge(j.epoch, j.size, j.limits);
                 whole(&l, &[&t.rows, &t.edges, &t.places])?;
                 let mut areas = j.areas.clone();
                 for (i, a) in areas.all_mut().into_iter().take(4).enumerate() {
@@ -240,7 +206,7 @@ impl Library {
                 let t = &u.tables;
                 let mut l = self.layout_loan(t, &u.areas, 8);
                 let mut session = u.session;
-                let answer = l.update(&mut session, &u.update, &u.limits);
+                let answer = l.update(&mut session, u.update, u.limits);
                 whole(&l, &[&t.rows, &t.edges, &t.places])?;
                 let mut areas = u.areas.clone();
                 for (i, a) in areas.all_mut().into_iter().enumerate() {
@@ -281,15 +247,6 @@ fn record_word(r: &Assigned) -> u64 {
 }
 
 impl Subject for Library {
-    fn has(&self, call: &Call) -> bool {
-        match call {
-            Call::Judge(_) | Call::Order(_) => true,
-            Call::Update(_) => HAS_UPDATE,
-            Call::Stretch(_) => HAS_STRETCH,
-            Call::Assign(_) => HAS_ASSIGNMENT,
-        }
-    }
-
     fn ask(&mut self, call: &Call) -> Outcome {
         self.answer(call).unwrap_or_else(Outcome::Trespass)
     }
@@ -297,64 +254,48 @@ impl Subject for Library {
 
 /// The calls without tables, each compared with 01's own words: how many answers agreed, or the first that does not.
 pub fn fixed_calls() -> Result<u64, String> {
-    #[allow(unused_mut)]
+    Ok(kinds()? + names()? + needs()?)
+}
+
+fn same<T: PartialEq + std::fmt::Debug>(what: String, got: T, want: T) -> Result<u64, String> {
+    if got == want { Ok(1) } else { Err(format!("{what}: {got:?}, expected {want:?}")) }
+}
+
+fn kinds() -> Result<u64, String> {
+    let mut met = same("default limits".to_owned(), c::threshpetal_default_limits(), Limits::DEFAULT)?;
+    for number in (0..200).chain([u64::MAX, 1 << 32, 64 + (1 << 32)]) {
+        met += same(format!("kind of {number}"), c::threshpetal_kind_of(number), kind(number))?;
+    }
+    Ok(met)
+}
+
+fn names() -> Result<u64, String> {
+    let mut r = Rng::new(7);
     let mut met = 0;
-    #[cfg(has_fixed)]
-    {
-        for number in (0..200).chain([u64::MAX, 1 << 32, 64 + (1 << 32)]) {
-            let want = kind(number);
-            let (mut got, mut limits) = (Kind::default(), Limits::NONE);
-            // SAFETY: both are written.
-            unsafe { c::oracle_fixed(number, &mut got, &mut limits) };
-            if got != want || limits != Limits::DEFAULT {
-                return Err(format!("kind of {number}: {got:?}, expected {want:?}; default limits {limits:?}"));
-            }
-            met += 2;
-        }
+    for i in 0..200u64 {
+        let id = if i % 2 == 0 { i } else { r.next() };
+        let mut name = || Name { present: r.one_in(2), text: r.next() };
+        let s = Session { id, held: i % 3 == 0, epoch: i, rows: 3, edges: 4, resolved: name(), controller: name(), secure: name() };
+        met += same(format!("new session {id}"), c::threshpetal_new_session(id), Session { id, ..Session::default() })?;
+        met += same(format!("resolved, of {s:?}"), c::threshpetal_is_resolved(s), s.held)?;
+        met += same(format!("name, of {s:?}"), c::threshpetal_resolved_name(s), s.resolved)?;
+        met += same(format!("URL, of {s:?}"), c::threshpetal_controller_url(s), s.controller)?;
+        met += same(format!("TLS URL, of {s:?}"), c::threshpetal_controller_url_tls(s), s.secure)?;
     }
-    #[cfg(has_names)]
-    {
-        use crate::rng::Rng;
-        let mut r = Rng::new(7);
-        for i in 0..200u64 {
-            let id = if i % 2 == 0 { i } else { r.next() };
-            let mut name = || Name { present: r.one_in(2), text: r.next() };
-            let s = Session { id, held: i % 3 == 0, epoch: i, rows: 3, edges: 4, resolved: name(), controller: name(), secure: name() };
-            let (mut new, mut resolved, mut names) = (s, 7, [Name::default(); 3]);
-            // SAFETY: one session, one word and three names are written.
-            unsafe { c::oracle_names(id, &s, &mut new, &mut resolved, names.as_mut_ptr()) };
-            if new != (Session { id, ..Session::default() }) || resolved != u64::from(s.held) || names != [s.resolved, s.controller, s.secure] {
-                return Err(format!("a session's names: {new:?} {resolved} {names:?} of {s:?}"));
-            }
-            met += 5;
-        }
-    }
-    #[cfg(has_needs)]
-    {
-        use crate::reading;
-        use crate::rng::Rng;
-        let mut r = Rng::new(11);
-        let cap = |n: u128| u64::try_from(n).unwrap_or(u64::MAX);
-        for _ in 0..1000 {
-            let mut count = || {
-                let bits = r.below(65) as u32;
-                let n = r.next();
-                (if bits == 64 { n } else { n & ((1 << bits) - 1) }) as usize
-            };
-            let (n, p, k, h) = (count(), count(), count(), count());
-            let want = reading::needs_to_update(n, p, k, h).map(cap);
-            let (mut u, mut o) = (UpdateNeeds::default(), OrderingNeeds::default());
-            // SAFETY: both are written.
-            unsafe { c::oracle_needs(n, p, k, h, &mut u, &mut o) };
-            if [u.work, u.held, u.links, u.order, u.added, u.removed, u.splits, u.merges] != want {
-                return Err(format!("needs to update {n} {p} {k} {h}: {u:?}, expected {want:?}"));
-            }
-            let want = reading::needs_to_order(h, k).map(cap);
-            if [o.work, o.first, o.second] != want {
-                return Err(format!("needs to order {h} {k}: {o:?}, expected {want:?}"));
-            }
-            met += 2;
-        }
+    Ok(met)
+}
+
+fn needs() -> Result<u64, String> {
+    let mut r = Rng::new(11);
+    let cap = |n: u128| u64::try_from(n).unwrap_or(u64::MAX);
+    let mut met = 0;
+    for _ in 0..1000 {
+        let mut count = || (r.next() >> r.below(64)) as usize;
+        let (n, p, k, h) = (count(), count(), count(), count());
+        let (u, o) = (c::threshpetal_needs_to_update(n, p, k, h), c::threshpetal_needs_to_order(h, k));
+        let u = [u.work, u.held, u.links, u.order, u.added, u.removed, u.splits, u.merges];
+        met += same(format!("needs to update {n} {p} {k} {h}"), u, reading::needs_to_update(n, p, k, h).map(cap))?;
+        met += same(format!("needs to order {h} {k}"), [o.work, o.first, o.second], reading::needs_to_order(h, k).map(cap))?;
     }
     Ok(met)
 }

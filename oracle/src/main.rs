@@ -237,18 +237,6 @@ fn main() {
             std::process::exit(1);
         }
     };
-    for (name, has) in [
-        ("update", HAS_UPDATE),
-        ("parents and children", HAS_STRETCH),
-        ("assignment", HAS_ASSIGNMENT),
-        ("fixed table and default limits", HAS_FIXED),
-        ("session's names", HAS_NAMES),
-        ("needs", HAS_NEEDS),
-    ] {
-        if !has {
-            println!("not in the archive, so not asked: {name}");
-        }
-    }
     let mut run = Run::new(&mut library);
     let begun = Instant::now();
     if w.small {
@@ -295,9 +283,6 @@ fn main() {
         w.seed,
         begun.elapsed().as_secs_f64()
     );
-    if run.unasked > 0 {
-        println!("{} calls were answered by the Rust alone, since the archive does not have them", run.unasked);
-    }
     let rare = run.rare(1000);
     if !rare.is_empty() {
         let list: Vec<String> = rare.iter().map(|(n, met)| format!("{n} ({met})")).collect();

@@ -14,15 +14,13 @@ pub struct Run<'a> {
     subject: &'a mut dyn Subject,
     /// (number, word, call) to (by the Rust, by the reading)
     pub met: BTreeMap<(u64, &'static str, &'static str), (u64, u64)>,
-    /// Calls that the subject does not have: answered by the Rust alone.
-    pub unasked: u64,
     pub answers: u64,
     pub difference: Option<Box<Difference>>,
 }
 
 impl<'a> Run<'a> {
     pub fn new(subject: &'a mut dyn Subject) -> Self {
-        Self { subject, met: BTreeMap::new(), unasked: 0, answers: 0, difference: None }
+        Self { subject, met: BTreeMap::new(), answers: 0, difference: None }
     }
 
     /// Whether to stop.
@@ -32,10 +30,6 @@ impl<'a> Run<'a> {
 
     pub fn ask(&mut self, call: Call) -> Expected {
         let want = expected(&call);
-        if !self.subject.has(&call) {
-            self.unasked += 1;
-            return want;
-        }
         let got = self.subject.ask(&call);
         self.answers += 1;
         let (number, word) = want.outcome.key();
@@ -95,10 +89,6 @@ mod tests {
     }
 
     impl Subject for Liar {
-        fn has(&self, _: &Call) -> bool {
-            true
-        }
-
         fn ask(&mut self, call: &Call) -> Outcome {
             let mut o = expected(call).outcome;
             self.calls += 1;
