@@ -1,8 +1,8 @@
 /* Threshpetal's calls for a host in C, or in any language that speaks C's calls.
 
    Everything is 64-bit words that the caller lends for the length of a call: tables that are read (`const uint64_t *`), areas that are written
-   (`uint64_t *`), each with its length in words behind it. The library allocates nothing, keeps nothing, calls nothing and has no state, so
-   any thread may call at any time with words that no other thread is writing. Two areas of one call must not overlap, nor an area and a table;
+   (`uint64_t *`), each with its length in words behind it. The library allocates nothing, keeps nothing, calls nothing but memset and has no state,
+   so any thread may call at any time with words that no other thread is writing. Two areas of one call must not overlap, nor an area and a table;
    two tables may. A pointer may be anything that is aligned and not NULL where its length is 0.
 
    TABLES
