@@ -12,3 +12,4 @@ pub mod Queries
 pub mod Told
 pub mod Keeping
 pub mod Examples
+pub mod Run
