@@ -1,8 +1,5 @@
 //! The clock: see bench/run.
 
-use original::dag_watch::*;
-use original::pb;
-use original::types::SegmentId;
 use oracle::expected::size_of;
 use oracle::face::*;
 use oracle::lent::Fence;
@@ -11,6 +8,9 @@ use oracle::reading;
 use oracle::shapes::SHAPES;
 use oracle::tables::*;
 use oracle::wire;
+use original::dag_watch::*;
+use original::pb;
+use original::types::SegmentId;
 use std::collections::BTreeSet;
 use std::fmt::Write as _;
 use std::hint::black_box;
@@ -197,7 +197,9 @@ fn plot(lines: &[Line]) -> String {
     let scale = |v: f64, low: f64, high: f64| 380.0 - (v.log10() - low) / (high - low) * 330.0;
     let time = |v: f64| scale(v, 0.0, 7.0);
     let ratio = |v: f64| scale(v, -1.5, 1.5);
-    for (panel, title) in [(70.0, String::from("update, microseconds (Rust dashed)")), (570.0, String::from("library / Rust (grey: the goal at 4,096 rows)"))] {
+    for (panel, title) in
+        [(70.0, String::from("update, microseconds (Rust dashed)")), (570.0, String::from("library / Rust (grey: the goal at 4,096 rows)"))]
+    {
         let _ = writeln!(s, "<text x=\"{panel}\" y=\"30\" font-size=\"14\">{title}</text>");
         let _ = writeln!(s, "<rect x=\"{panel}\" y=\"50\" width=\"380\" height=\"330\" fill=\"none\" stroke=\"#888\"/>");
         for n in SIZES {
@@ -217,13 +219,21 @@ fn plot(lines: &[Line]) -> String {
             points.iter().map(|p| format!("{:.1},{:.1}", f(p).0, f(p).1)).collect::<Vec<_>>().join(" ")
         };
         let colour = COLOURS[i % 5];
-        let _ = writeln!(s, "<polyline fill=\"none\" stroke=\"{colour}\" stroke-width=\"2\" points=\"{}\"/>", path(&|p| (x(70.0, p.0), time(p.2))));
+        let _ = writeln!(
+            s,
+            "<polyline fill=\"none\" stroke=\"{colour}\" stroke-width=\"2\" points=\"{}\"/>",
+            path(&|p| (x(70.0, p.0), time(p.2)))
+        );
         let _ = writeln!(
             s,
             "<polyline fill=\"none\" stroke=\"{colour}\" stroke-dasharray=\"5 4\" points=\"{}\"/>",
             path(&|p| (x(70.0, p.0), time(p.1)))
         );
-        let _ = writeln!(s, "<polyline fill=\"none\" stroke=\"{colour}\" stroke-width=\"2\" points=\"{}\"/>", path(&|p| (x(570.0, p.0), ratio(p.2 / p.1))));
+        let _ = writeln!(
+            s,
+            "<polyline fill=\"none\" stroke=\"{colour}\" stroke-width=\"2\" points=\"{}\"/>",
+            path(&|p| (x(570.0, p.0), ratio(p.2 / p.1)))
+        );
         let _ = writeln!(s, "<text x=\"{}\" y=\"425\" fill=\"{colour}\">{name}</text>", 70 + 170 * i);
     }
     s.push_str("</svg>\n");
@@ -255,7 +265,9 @@ fn main() {
             }
             lines.push((name.to_owned(), points));
         }
-        println!("\n| shape | ratio at 4,096 (goal 0.5) | growth to 65,536 over n log n (goal 1.2) | the Rust's growth |\n|---|---|---|---|");
+        println!(
+            "\n| shape | ratio at 4,096 (goal 0.5) | growth to 65,536 over n log n (goal 1.2) | the Rust's growth |\n|---|---|---|---|"
+        );
         for (name, points) in &lines {
             let at = |n: usize| points.iter().find(|p| p.0 == n);
             let p = at(4_096).unwrap();
@@ -265,7 +277,9 @@ fn main() {
         if updates {
             continue;
         }
-        println!("\n| ordering | rows | Rust, us | library, us | floor, us | to the Rust | to the floor (goal 1.5) | all: Rust, us | all: library, us | ratio | words cleared |\n|---|---|---|---|---|---|---|---|---|---|---|");
+        println!(
+            "\n| ordering | rows | Rust, us | library, us | floor, us | to the Rust | to the floor (goal 1.5) | all: Rust, us | all: library, us | ratio | words cleared |\n|---|---|---|---|---|---|---|---|---|---|---|"
+        );
         for (name, make) in SHAPES {
             for n in &[64, 4_096, 65_536][..if quick { 2 } else { 3 }] {
                 println!("{}", b.queries(name, &Case::new(make(*n))));
@@ -277,6 +291,8 @@ fn main() {
         }
     }
     if pages {
-        println!("\nevery area stood at the edge of a page that may not be touched, once at its end and once at its start: no byte outside was");
+        println!(
+            "\nevery area stood at the edge of a page that may not be touched, once at its end and once at its start: no byte outside was"
+        );
     }
 }

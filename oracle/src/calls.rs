@@ -110,9 +110,21 @@ pub enum Call {
 
 #[derive(Clone, Debug, PartialEq, Eq)]
 pub enum Outcome {
-    Judged { refusal: Refusal, areas: Areas },
-    Updated { answer: Updated, session: Session, areas: Areas },
-    Ordered { answer: Ordering, work: Vec<u64>, first: Vec<u64>, second: Vec<u64> },
+    Judged {
+        refusal: Refusal,
+        areas: Areas,
+    },
+    Updated {
+        answer: Updated,
+        session: Session,
+        areas: Areas,
+    },
+    Ordered {
+        answer: Ordering,
+        work: Vec<u64>,
+        first: Vec<u64>,
+        second: Vec<u64>,
+    },
     Stretched(Stretch),
     Assigned(Refusal),
     /// A lent or read word outside its area changed, or a table that is only read.
@@ -195,10 +207,7 @@ pub fn differences(want: &Outcome, got: &Outcome) -> Vec<String> {
                 words(AREA_NAMES[i], x, y, &mut out);
             }
         }
-        (
-            Outcome::Updated { answer: r, session: s, areas: a },
-            Outcome::Updated { answer: r2, session: s2, areas: b },
-        ) => {
+        (Outcome::Updated { answer: r, session: s, areas: a }, Outcome::Updated { answer: r2, session: s2, areas: b }) => {
             said(format!("{r:?}"), format!("{r2:?}"));
             said(format!("{s:?}"), format!("{s2:?}"));
             for (i, (x, y)) in a.all().iter().zip(b.all()).enumerate() {

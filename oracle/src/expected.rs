@@ -105,12 +105,7 @@ fn cleared(new: Name) -> Name {
 
 /// The Rust's delta as the reading has it.
 fn delta_of(d: &DagDelta) -> reading::Delta {
-    let handover = d
-        .added
-        .iter()
-        .filter(|s| s.state == original::types::SegmentState::Active)
-        .map(|s| u64::from(s.key_range.len()))
-        .sum();
+    let handover = d.added.iter().filter(|s| s.state == original::types::SegmentState::Active).map(|s| u64::from(s.key_range.len())).sum();
     let reason = match d.change_reason() {
         DagChangeReason::Split => 0,
         DagChangeReason::Merge => 1,
@@ -120,16 +115,8 @@ fn delta_of(d: &DagDelta) -> reading::Delta {
     reading::Delta {
         added: d.added.iter().map(|s| s.segment_id.0).collect(),
         removed: d.removed.iter().map(|s| s.0).collect(),
-        splits: d
-            .split_events
-            .iter()
-            .flat_map(|e| e.child_segment_ids.iter().map(|c| (e.parent_segment_id.0, c.0)))
-            .collect(),
-        merges: d
-            .merge_events
-            .iter()
-            .flat_map(|e| e.parent_segment_ids.iter().map(|p| (e.child_segment_id.0, p.0)))
-            .collect(),
+        splits: d.split_events.iter().flat_map(|e| e.child_segment_ids.iter().map(|c| (e.parent_segment_id.0, c.0))).collect(),
+        merges: d.merge_events.iter().flat_map(|e| e.parent_segment_ids.iter().map(|p| (e.child_segment_id.0, p.0))).collect(),
         reason,
         handover,
     }
@@ -139,122 +126,144 @@ fn agree<T: PartialEq + std::fmt::Debug>(what: &str, rust: &T, reading: &T) {
     assert!(rust == reading, "the plain reading of 01 differs from the Rust in {what}: {reading:?}, the Rust {rust:?}");
 }
 
+/// The message that the Rust is given; unreadable tables stand as an empty layout.
+fn message(c: &UpdateCall, layout: &Layout) -> pb::CommandScalableTopicUpdate {
+    let u = &c.update;
+    pb::CommandScalableTopicUpdate {
+        session_id: u.session,
+        dag: u.layout.then(|| wire::dag(layout, u.controller, u.secure)),
+        error: u.error.then_some(u.code as i32),
+        message: wire::name_text(u.message),
+        resolved_topic_name: wire::name_text(u.resolved),
+    }
+}
+
+fn refused(refusal: Refusal) -> Updated {
+    Updated { refusal, ..Updated::default() }
+}
+
+/// An update that is refused or stale: only the work area may have changed.
+fn unchanged(c: &UpdateCall, answer: Updated, judge: Judge, areas: Areas) -> Expected {
+    Expected { outcome: Outcome::Updated { answer, session: c.session, areas }, judge, origin: c.origin.clone() }
+}
+
+/// The Rust's answer where it is 40, 41, 42, stale or a refused layout; nothing where it accepts.
+fn rust_refusal(rust: &mut DagWatchSession, m: &pb::CommandScalableTopicUpdate) -> Option<Updated> {
+    Some(match rust.handle_update(m) {
+        Ok(None) => Updated { outcome: 1, ..Updated::default() },
+        Ok(Some(_)) => return None,
+        Err(DagError::SessionMismatch { got, expected }) => refused(Refusal::new(40, &[got, expected])),
+        Err(DagError::Broker { code, message }) => refused(Refusal::new(41, &[u64::from(code as u32), wire::number(&message)])),
+        Err(DagError::Empty { session_id }) => refused(Refusal::new(42, &[session_id])),
+        Err(DagError::InvalidSnapshot(e)) => refused(wire::refusal(&e)),
+    })
+}
+
 pub fn update(c: &UpdateCall) -> Expected {
     let (s, u) = (&c.session, &c.update);
     let bad = reading::bad_layout(&c.tables);
     let layout = if bad { Layout { epoch: u.epoch, ..Layout::default() } } else { c.tables.layout(u.epoch) };
     let mut rust = rust_session(c);
     let by = if rust.is_some() { Judge::Rust } else { Judge::Reading };
-    let answer = |refusal| Updated { refusal, ..Updated::default() };
-    let unchanged = |answer, judge, areas| Expected {
-        outcome: Outcome::Updated { answer, session: *s, areas },
-        judge,
-        origin: c.origin.clone(),
-    };
 
     // 40, 41, 42, stale: the Rust does not look at the layout for these, so an unreadable one may stand empty there.
-    let early = reading::early(s, u);
-    if !matches!(early, reading::Early::Past) {
-        let said = match &early {
-            reading::Early::Refused(r) => answer(*r),
-            _ => Updated { outcome: 1, ..Updated::default() },
-        };
+    let early = match reading::early(s, u) {
+        reading::Early::Refused(r) => Some(refused(r)),
+        reading::Early::Stale => Some(Updated { outcome: 1, ..Updated::default() }),
+        reading::Early::Past => None,
+    };
+    if let Some(said) = early {
         if let Some(rust) = rust.as_mut() {
-            let message = pb::CommandScalableTopicUpdate {
-                session_id: u.session,
-                dag: u.layout.then(|| wire::dag(&layout, u.controller, u.secure)),
-                error: u.error.then_some(u.code as i32),
-                message: wire::name_text(u.message),
-                resolved_topic_name: wire::name_text(u.resolved),
-            };
-            let by_rust = match rust.handle_update(&message) {
-                Ok(None) => Updated { outcome: 1, ..Updated::default() },
-                Err(DagError::SessionMismatch { got, expected }) => answer(Refusal::new(40, &[got, expected])),
-                Err(DagError::Broker { code, message }) => {
-                    answer(Refusal::new(41, &[u64::from(code as u32), wire::number(&message)]))
-                }
-                Err(DagError::Empty { session_id }) => answer(Refusal::new(42, &[session_id])),
-                other => panic!("the Rust went past 40, 41, 42 and stale: {other:?}"),
-            };
-            agree("40, 41, 42 or stale", &by_rust, &said);
+            agree("40, 41, 42 or stale", &rust_refusal(rust, &message(c, &layout)), &Some(said));
         }
-        return unchanged(said, by, c.areas.clone());
+        return unchanged(c, said, by, c.areas.clone());
     }
 
     let (h, g) = s.counts();
-    if bad || reading::bad_held(&c.areas.held, &c.areas.links, h, g) {
-        return unchanged(answer(Refusal::new(1, &[])), Judge::Reading, c.areas.clone());
-    }
     let (n, p, k) = c.tables.counts();
-    if reading::short(&lengths(&c.areas), &reading::needs_to_update(n, p, k, h)) {
-        return unchanged(answer(Refusal::new(2, &[])), Judge::Reading, c.areas.clone());
+    if bad || reading::bad_held(&c.areas.held, &c.areas.links, h, g) {
+        return unchanged(c, refused(Refusal::new(1, &[])), Judge::Reading, c.areas.clone());
     }
+    if reading::short(&lengths(&c.areas), &reading::needs_to_update(n, p, k, h)) {
+        return unchanged(c, refused(Refusal::new(2, &[])), Judge::Reading, c.areas.clone());
+    }
+    judged_update(c, &layout, rust, by)
+}
 
-    let dag = wire::dag(&layout, u.controller, u.secure);
+/// 3 to 35, or acceptance.
+fn judged_update(c: &UpdateCall, layout: &Layout, mut rust: Option<DagWatchSession>, by: Judge) -> Expected {
+    let m = message(c, layout);
+    let dag = m.dag.as_ref().expect("a layout");
     let mut areas = c.areas.clone();
     areas.work.fill(0);
-    let snapshot = match verdict(&dag, u.size, c.limits) {
-        Ok(snapshot) => snapshot,
+    match verdict(dag, c.update.size, c.limits) {
+        Ok(snapshot) => accepted_update(c, layout, &m, rust, snapshot, areas),
         Err(r) => {
+            let own = c.limits == Limits::DEFAULT && c.update.size == dag.encoded_len() as u64;
             if let Some(rust) = rust.as_mut()
-                && c.limits == Limits::DEFAULT
-                && u.size == dag.encoded_len() as u64
+                && own
             {
-                let message = pb::CommandScalableTopicUpdate {
-                    session_id: u.session,
-                    dag: Some(dag),
-                    error: u.error.then_some(u.code as i32),
-                    message: wire::name_text(u.message),
-                    resolved_topic_name: wire::name_text(u.resolved),
-                };
-                match rust.handle_update(&message) {
-                    Err(DagError::InvalidSnapshot(e)) => agree("handle_update and its judge", &wire::refusal(&e), &r),
-                    other => panic!("handle_update and its judge differ: {other:?}, {r:?}"),
-                }
+                agree("handle_update and its judge", &rust_refusal(rust, &m), &Some(refused(r)));
             }
-            return unchanged(answer(r), by, areas);
+            unchanged(c, refused(r), by, areas)
         }
-    };
+    }
+}
 
+/// What an accepted update leaves in the session.
+fn session_after(c: &UpdateCall) -> Session {
+    let (s, u) = (&c.session, &c.update);
+    let (n, _, k) = c.tables.counts();
+    Session {
+        id: s.id,
+        held: true,
+        epoch: u.epoch,
+        rows: n,
+        edges: k,
+        resolved: kept(s.resolved, u.resolved),
+        controller: cleared(u.controller),
+        secure: cleared(u.secure),
+    }
+}
+
+/// The Rust takes the layout too, unless only wider limits let it in: then its delta, names and snapshot must be those.
+fn taken_by(
+    mut rust: DagWatchSession,
+    m: &pb::CommandScalableTopicUpdate,
+    read: &reading::Delta,
+    session: &Session,
+    snapshot: &DagSnapshot,
+) -> Option<DagWatchSession> {
+    let Ok(Some(delta)) = rust.handle_update(m) else { return None };
+    let d = delta_of(&delta);
+    agree("added", &d.added, &read.added);
+    agree("removed", &d.removed, &read.removed);
+    agree("split pairs", &d.splits, &read.splits);
+    agree("merge pairs", &d.merges, &read.merges);
+    agree("reason", &d.reason, &read.reason);
+    agree("handover", &d.handover, &read.handover);
+    agree("epoch", &delta.epoch, &session.epoch);
+    agree("resolved name", &wire::name_of(rust.resolved_topic_name()), &cleared(session.resolved));
+    agree("controller", &wire::name_of(rust.controller_broker_url()), &session.controller);
+    agree("TLS controller", &wire::name_of(rust.controller_broker_url_tls()), &session.secure);
+    assert!(rust.is_resolved() && rust.validated_snapshot() == Some(snapshot));
+    Some(rust)
+}
+
+fn accepted_update(
+    c: &UpdateCall,
+    layout: &Layout,
+    m: &pb::CommandScalableTopicUpdate,
+    rust: Option<DagWatchSession>,
+    snapshot: DagSnapshot,
+    mut areas: Areas,
+) -> Expected {
+    let h = c.session.counts().0;
     let before: BTreeSet<u64> = c.areas.held[..h * HELD].chunks_exact(HELD).map(|r| r[0]).collect();
     let read = reading::delta(&before, &layout.segments);
-    let mut session = *s;
-    session.held = true;
-    session.epoch = u.epoch;
-    session.rows = n;
-    session.edges = k;
-    session.resolved = kept(s.resolved, u.resolved);
-    session.controller = cleared(u.controller);
-    session.secure = cleared(u.secure);
-
-    // The Rust takes it too, unless only wider limits let it in.
-    let message = pb::CommandScalableTopicUpdate {
-        session_id: u.session,
-        dag: Some(dag),
-        error: u.error.then_some(u.code as i32),
-        message: wire::name_text(u.message),
-        resolved_topic_name: wire::name_text(u.resolved),
-    };
-    let mut by = Judge::Reading;
-    let mut after = None;
-    if let Some(mut rust) = rust
-        && let Ok(Some(delta)) = rust.handle_update(&message)
-    {
-        by = Judge::Rust;
-        let d = delta_of(&delta);
-        agree("added", &d.added, &read.added);
-        agree("removed", &d.removed, &read.removed);
-        agree("split pairs", &d.splits, &read.splits);
-        agree("merge pairs", &d.merges, &read.merges);
-        agree("reason", &d.reason, &read.reason);
-        agree("handover", &d.handover, &read.handover);
-        agree("epoch", &delta.epoch, &session.epoch);
-        agree("resolved name", &wire::name_of(rust.resolved_topic_name()), &cleared(session.resolved));
-        agree("controller", &wire::name_of(rust.controller_broker_url()), &session.controller);
-        agree("TLS controller", &wire::name_of(rust.controller_broker_url_tls()), &session.secure);
-        assert!(rust.is_resolved() && rust.validated_snapshot() == Some(&snapshot));
-        after = Some(rust);
-    }
+    let session = session_after(c);
+    let after = rust.and_then(|rust| taken_by(rust, m, &read, &session, &snapshot));
+    let by = if after.is_some() { Judge::Rust } else { Judge::Reading };
     accept(&mut areas, &snapshot);
     front(&mut areas.added, &read.added);
     front(&mut areas.removed, &read.removed);
@@ -263,7 +272,7 @@ pub fn update(c: &UpdateCall) -> Expected {
     let answer = Updated {
         outcome: 2,
         refusal: Refusal::NONE,
-        epoch: u.epoch,
+        epoch: c.update.epoch,
         added: read.added.len(),
         removed: read.removed.len(),
         splits: read.splits.len(),
@@ -320,22 +329,14 @@ pub fn order(c: &OrderCall) -> Expected {
     work.fill(0);
     front(&mut first, &read.first);
     front(&mut second, &read.second);
-    let answer = Ordering {
-        outcome: read.outcome,
-        refusal: read.refusal,
-        first: read.first.len(),
-        second: read.second.len(),
-        read: read.read,
-    };
+    let answer =
+        Ordering { outcome: read.outcome, refusal: read.refusal, first: read.first.len(), second: read.second.len(), read: read.read };
     Expected { outcome: Outcome::Ordered { answer, work, first, second }, judge: by, origin }
 }
 
 pub fn stretch(c: &StretchCall) -> Expected {
-    let said = |refusal, start, length, judge| Expected {
-        outcome: Outcome::Stretched(Stretch { refusal, start, length }),
-        judge,
-        origin: None,
-    };
+    let said =
+        |refusal, start, length, judge| Expected { outcome: Outcome::Stretched(Stretch { refusal, start, length }), judge, origin: None };
     if reading::bad_held(&c.rows, &c.edges, c.h, c.g) {
         return said(Refusal::new(1, &[]), 0, 0, Judge::Reading);
     }

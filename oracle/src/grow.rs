@@ -43,17 +43,7 @@ pub fn cut(rng: &mut Rng, start: u64, end: u64, k: u64) -> Vec<(u64, u64)> {
 }
 
 pub fn active(id: u64, range: (u64, u64), created: u64) -> Segment {
-    Segment {
-        id,
-        start: range.0,
-        end: range.1,
-        state: 1,
-        created,
-        seal: (0, 0),
-        legacy: (0, 0),
-        parents: vec![],
-        children: vec![],
-    }
+    Segment { id, start: range.0, end: range.1, state: 1, created, seal: (0, 0), legacy: (0, 0), parents: vec![], children: vec![] }
 }
 
 /// A text that is not empty.
@@ -155,8 +145,7 @@ impl World {
 
     /// Forgets a root, with those that merged beside it; its children become roots.
     fn prune(&mut self, rng: &mut Rng) {
-        let roots: Vec<u64> =
-            self.segments.values().filter(|s| s.parents.is_empty() && !s.children.is_empty()).map(|s| s.id).collect();
+        let roots: Vec<u64> = self.segments.values().filter(|s| s.parents.is_empty() && !s.children.is_empty()).map(|s| s.id).collect();
         if roots.is_empty() {
             return;
         }
@@ -176,12 +165,8 @@ impl World {
 
     /// A sealed row that leads nowhere comes or goes.
     fn dead_row(&mut self, rng: &mut Rng) {
-        let dead: Vec<u64> = self
-            .segments
-            .values()
-            .filter(|s| s.state == 2 && s.parents.is_empty() && s.children.is_empty())
-            .map(|s| s.id)
-            .collect();
+        let dead: Vec<u64> =
+            self.segments.values().filter(|s| s.state == 2 && s.parents.is_empty() && s.children.is_empty()).map(|s| s.id).collect();
         if !dead.is_empty() && rng.one_in(2) {
             self.segments.remove(rng.pick(&dead));
             return;
@@ -254,7 +239,11 @@ impl World {
                 }
             }
             if rng.below(4) < placed {
-                let tls = if rng.one_in(2) { (1, if rng.one_in(6) { 0 } else { some_text(rng) }) } else { (0, if junk { rng.below(9) } else { 0 }) };
+                let tls = if rng.one_in(2) {
+                    (1, if rng.one_in(6) { 0 } else { some_text(rng) })
+                } else {
+                    (0, if junk { rng.below(9) } else { 0 })
+                };
                 l.places.push(Place { id: s.id, url: some_text(rng), tls });
             }
         }

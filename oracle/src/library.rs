@@ -18,31 +18,97 @@ mod c {
 
     unsafe extern "C" {
         pub fn threshpetal_judge(
-            epoch: u64, size: u64, limits: Limits,
-            rows: *const u64, rows_len: usize, edges: *const u64, edges_len: usize, places: *const u64, places_len: usize,
-            work: *mut u64, work_len: usize, held: *mut u64, held_len: usize, links: *mut u64, links_len: usize,
-            order: *mut u64, order_len: usize,
+            epoch: u64,
+            size: u64,
+            limits: Limits,
+            rows: *const u64,
+            rows_len: usize,
+            edges: *const u64,
+            edges_len: usize,
+            places: *const u64,
+            places_len: usize,
+            work: *mut u64,
+            work_len: usize,
+            held: *mut u64,
+            held_len: usize,
+            links: *mut u64,
+            links_len: usize,
+            order: *mut u64,
+            order_len: usize,
         ) -> Refusal;
         pub fn threshpetal_handle_update(
-            session: *mut Session, update: Update, limits: Limits,
-            rows: *const u64, rows_len: usize, edges: *const u64, edges_len: usize, places: *const u64, places_len: usize,
-            work: *mut u64, work_len: usize, held: *mut u64, held_len: usize, links: *mut u64, links_len: usize,
-            order: *mut u64, order_len: usize, added: *mut u64, added_len: usize, removed: *mut u64, removed_len: usize,
-            splits: *mut u64, splits_len: usize, merges: *mut u64, merges_len: usize,
+            session: *mut Session,
+            update: Update,
+            limits: Limits,
+            rows: *const u64,
+            rows_len: usize,
+            edges: *const u64,
+            edges_len: usize,
+            places: *const u64,
+            places_len: usize,
+            work: *mut u64,
+            work_len: usize,
+            held: *mut u64,
+            held_len: usize,
+            links: *mut u64,
+            links_len: usize,
+            order: *mut u64,
+            order_len: usize,
+            added: *mut u64,
+            added_len: usize,
+            removed: *mut u64,
+            removed_len: usize,
+            splits: *mut u64,
+            splits_len: usize,
+            merges: *mut u64,
+            merges_len: usize,
         ) -> Updated;
         pub fn threshpetal_ordering_eligibility(
-            rows: *const u64, rows_len: usize, edges: *const u64, edges_len: usize, h: usize, g: usize, managed: bool, segment: u64,
-            history: *const u64, history_len: usize, completed: *const u64, completed_len: usize,
-            work: *mut u64, work_len: usize, first: *mut u64, first_len: usize, second: *mut u64, second_len: usize,
+            rows: *const u64,
+            rows_len: usize,
+            edges: *const u64,
+            edges_len: usize,
+            h: usize,
+            g: usize,
+            managed: bool,
+            segment: u64,
+            history: *const u64,
+            history_len: usize,
+            completed: *const u64,
+            completed_len: usize,
+            work: *mut u64,
+            work_len: usize,
+            first: *mut u64,
+            first_len: usize,
+            second: *mut u64,
+            second_len: usize,
         ) -> Ordering;
         pub fn threshpetal_parents_of(
-            rows: *const u64, rows_len: usize, edges: *const u64, edges_len: usize, h: usize, g: usize, segment: u64,
+            rows: *const u64,
+            rows_len: usize,
+            edges: *const u64,
+            edges_len: usize,
+            h: usize,
+            g: usize,
+            segment: u64,
         ) -> Stretch;
         pub fn threshpetal_children_of(
-            rows: *const u64, rows_len: usize, edges: *const u64, edges_len: usize, h: usize, g: usize, segment: u64,
+            rows: *const u64,
+            rows_len: usize,
+            edges: *const u64,
+            edges_len: usize,
+            h: usize,
+            g: usize,
+            segment: u64,
         ) -> Stretch;
         pub fn threshpetal_validate_assignment(
-            list: *const Assigned, list_len: usize, rows: *const u64, rows_len: usize, n: usize, dag_epoch: u64, epoch: u64,
+            list: *const Assigned,
+            list_len: usize,
+            rows: *const u64,
+            rows_len: usize,
+            n: usize,
+            dag_epoch: u64,
+            epoch: u64,
         ) -> Refusal;
         pub safe fn threshpetal_kind_of(number: u64) -> Kind;
         pub safe fn threshpetal_default_limits() -> Limits;
@@ -112,8 +178,7 @@ impl Loan {
         // SAFETY: every pointer stands for as many words as its length says, and the areas are apart.
         unsafe {
             c::threshpetal_judge(
-                epoch, size, limits, r.0, r.1, e.0, e.1, p.0, p.1,
-                a[0].0, a[0].1, a[1].0, a[1].1, a[2].0, a[2].1, a[3].0, a[3].1,
+                epoch, size, limits, r.0, r.1, e.0, e.1, p.0, p.1, a[0].0, a[0].1, a[1].0, a[1].1, a[2].0, a[2].1, a[3].0, a[3].1,
             )
         }
     }
@@ -125,8 +190,7 @@ impl Loan {
         // SAFETY: as above.
         unsafe {
             c::threshpetal_handle_update(
-                session, update, limits, r.0, r.1, e.0, e.1, p.0, p.1,
-                a[0].0, a[0].1, a[1].0, a[1].1, a[2].0, a[2].1, a[3].0, a[3].1,
+                session, update, limits, r.0, r.1, e.0, e.1, p.0, p.1, a[0].0, a[0].1, a[1].0, a[1].1, a[2].0, a[2].1, a[3].0, a[3].1,
                 a[4].0, a[4].1, a[5].0, a[5].1, a[6].0, a[6].1, a[7].0, a[7].1,
             )
         }
@@ -139,8 +203,7 @@ impl Loan {
         // SAFETY: as above.
         unsafe {
             c::threshpetal_ordering_eligibility(
-                t[0].0, t[0].1, t[1].0, t[1].1, h, g, managed, segment,
-                t[2].0, t[2].1, t[3].0, t[3].1, w.0, w.1, f.0, f.1, s.0, s.1,
+                t[0].0, t[0].1, t[1].0, t[1].1, h, g, managed, segment, t[2].0, t[2].1, t[3].0, t[3].1, w.0, w.1, f.0, f.1, s.0, s.1,
             )
         }
     }

@@ -373,7 +373,9 @@ fn disturb(rng: &mut Rng, lines: &mut Vec<String>) {
             let fields: Vec<&str> = lines[i].split(' ').collect();
             let k = rng.index(fields.len());
             let mut fields: Vec<String> = fields.into_iter().map(str::to_owned).collect();
-            fields[k] = (*rng.pick(&["18446744073709551616", "18446744073709551615", "-", "00", "-5", "1,2", "1,,2", "+1", "z", "4294967296"])).to_owned();
+            fields[k] =
+                (*rng.pick(&["18446744073709551616", "18446744073709551615", "-", "00", "-5", "1,2", "1,,2", "+1", "z", "4294967296"]))
+                    .to_owned();
             lines[i] = fields.join(" ");
         }
         _ => {
@@ -388,8 +390,7 @@ fn disturb(rng: &mut Rng, lines: &mut Vec<String>) {
 /// What the program itself prints; its command stands in THRESHPETAL_LISTING.
 pub fn program(command: &str, input: &str) -> std::io::Result<String> {
     let mut words = command.split_whitespace();
-    let mut child =
-        Command::new(words.next().unwrap_or("")).args(words).stdin(Stdio::piped()).stdout(Stdio::piped()).spawn()?;
+    let mut child = Command::new(words.next().unwrap_or("")).args(words).stdin(Stdio::piped()).stdout(Stdio::piped()).spawn()?;
     // The program may stop reading at an unreadable line.
     let _ = child.stdin.take().unwrap().write_all(input.as_bytes());
     Ok(String::from_utf8_lossy(&child.wait_with_output()?.stdout).into_owned())

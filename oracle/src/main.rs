@@ -25,7 +25,7 @@ struct Wish {
 }
 
 fn wish() -> Wish {
-    let mut w = Wish { answers: 200_000, time: None, seed: 1, small: false, pages: false, story: None, listing: None };
+    let mut w = Wish { answers: 60_000, time: None, seed: 1, small: false, pages: false, story: None, listing: None };
     let mut numbers = 0;
     for a in std::env::args().skip(1) {
         if a == "small" {
@@ -41,7 +41,11 @@ fn wish() -> Wish {
             w.answers = u64::MAX;
             numbers += 1;
         } else if let Ok(n) = a.parse() {
-            if numbers == 0 { w.answers = n } else { w.seed = n }
+            if numbers == 0 {
+                w.answers = n
+            } else {
+                w.seed = n
+            }
             numbers += 1;
         } else {
             eprintln!("usage: oracle [COUNT | SECONDSs] [SEED] [small] [pages] [story=N] [listing=N]");

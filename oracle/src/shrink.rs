@@ -75,12 +75,12 @@ fn shorter(list: &[u64]) -> Vec<Vec<u64>> {
 
 fn candidates(call: &Call) -> Vec<Call> {
     match call {
-        Call::Judge(c) => with_layout(&c.tables, c.epoch).into_iter().map(|tables| Call::Judge(JudgeCall { tables, ..c.clone() })).collect(),
+        Call::Judge(c) => {
+            with_layout(&c.tables, c.epoch).into_iter().map(|tables| Call::Judge(JudgeCall { tables, ..c.clone() })).collect()
+        }
         Call::Update(c) => {
-            let mut out: Vec<Call> = with_layout(&c.tables, c.update.epoch)
-                .into_iter()
-                .map(|tables| Call::Update(UpdateCall { tables, ..c.clone() }))
-                .collect();
+            let mut out: Vec<Call> =
+                with_layout(&c.tables, c.update.epoch).into_iter().map(|tables| Call::Update(UpdateCall { tables, ..c.clone() })).collect();
             if c.session.held {
                 let mut d = c.clone();
                 d.session.held = false;

@@ -159,74 +159,77 @@ pub fn spoil(rng: &mut Rng, l: &mut Layout, number: u64) {
                 l.segments[i].seal.1 = rng.within(l.segments[i].created, l.epoch);
             }
         }
-        _ => {
-            let pick = match number {
-                15 | 16 => act,
-                17 | 18 | 21 | 27 => sealed,
-                20 => some(rng, l, |s| !s.parents.is_empty()).or(any),
-                _ => any,
-            };
-            let Some(i) = pick else { return };
-            let new = unknown(rng, l);
-            let epoch = l.epoch;
-            let twin = l.segments[i].clone();
-            let s = &mut l.segments[i];
-            match number {
-                8 => {
-                    let k = rng.index(l.segments.len() + 1);
-                    let mut twin = twin;
-                    if rng.one_in(3) {
-                        twin.start = 70000;
-                    }
-                    l.segments.insert(k, twin);
-                }
-                9 => s.legacy = (1, 0),
-                10 => s.start = *rng.pick(&[65536, 65537, 0xFFFF_FFFF, 70000]),
-                11 => s.end = *rng.pick(&[65536, 65537, 0xFFFF_FFFF, 70000]),
-                12 => {
-                    if s.start == s.end {
-                        s.start += 1;
-                    }
-                    (s.start, s.end) = (s.end, s.start);
-                }
-                13 => s.state = *rng.pick(&[0, 3, 4, 0xFFFF_FFFF, 0x8000_0000, 0x7FFF_FFFF, 0x8000_0001]),
-                14 => s.created = *rng.pick(&[epoch.saturating_add(1), u64::MAX, epoch.saturating_add(7)]),
-                15 => s.seal = (1, rng.below(9)),
-                16 => s.children.push(new),
-                17 => s.seal = (0, s.seal.1),
-                18 => {
-                    s.seal = (1, *rng.pick(&[s.created.wrapping_sub(1), epoch.saturating_add(1), u64::MAX, 0]));
-                }
-                19 => {
-                    let list = if rng.one_in(2) { &mut s.parents } else { &mut s.children };
-                    let k = rng.index(list.len() + 1);
-                    list.insert(k, s.id);
-                }
-                20 => {
-                    let again = s.parents.first().copied().unwrap_or(new);
-                    s.parents.push(again);
-                    if rng.one_in(3) {
-                        s.parents.insert(0, again);
-                    }
-                }
-                21 => {
-                    let again = s.children.first().copied().unwrap_or(new);
-                    s.children.push(again);
-                    if twin.children.is_empty() {
-                        s.children.push(again);
-                    }
-                }
-                24 => {
-                    let k = rng.index(s.parents.len() + 1);
-                    s.parents.insert(k, new);
-                }
-                27 => {
-                    let k = rng.index(s.children.len() + 1);
-                    s.children.insert(k, new);
-                }
-                _ => {}
+        _ => spoil_row(rng, l, number, [any, act, sealed]),
+    }
+}
+
+/// The faults that stand in one row: any row, an Active or a Sealed one, if there is one.
+fn spoil_row(rng: &mut Rng, l: &mut Layout, number: u64, [any, act, sealed]: [Option<usize>; 3]) {
+    let pick = match number {
+        15 | 16 => act,
+        17 | 18 | 21 | 27 => sealed,
+        20 => some(rng, l, |s| !s.parents.is_empty()).or(any),
+        _ => any,
+    };
+    let Some(i) = pick else { return };
+    let new = unknown(rng, l);
+    let epoch = l.epoch;
+    let twin = l.segments[i].clone();
+    let s = &mut l.segments[i];
+    match number {
+        8 => {
+            let k = rng.index(l.segments.len() + 1);
+            let mut twin = twin;
+            if rng.one_in(3) {
+                twin.start = 70000;
+            }
+            l.segments.insert(k, twin);
+        }
+        9 => s.legacy = (1, 0),
+        10 => s.start = *rng.pick(&[65536, 65537, 0xFFFF_FFFF, 70000]),
+        11 => s.end = *rng.pick(&[65536, 65537, 0xFFFF_FFFF, 70000]),
+        12 => {
+            if s.start == s.end {
+                s.start += 1;
+            }
+            (s.start, s.end) = (s.end, s.start);
+        }
+        13 => s.state = *rng.pick(&[0, 3, 4, 0xFFFF_FFFF, 0x8000_0000, 0x7FFF_FFFF, 0x8000_0001]),
+        14 => s.created = *rng.pick(&[epoch.saturating_add(1), u64::MAX, epoch.saturating_add(7)]),
+        15 => s.seal = (1, rng.below(9)),
+        16 => s.children.push(new),
+        17 => s.seal = (0, s.seal.1),
+        18 => {
+            s.seal = (1, *rng.pick(&[s.created.wrapping_sub(1), epoch.saturating_add(1), u64::MAX, 0]));
+        }
+        19 => {
+            let list = if rng.one_in(2) { &mut s.parents } else { &mut s.children };
+            let k = rng.index(list.len() + 1);
+            list.insert(k, s.id);
+        }
+        20 => {
+            let again = s.parents.first().copied().unwrap_or(new);
+            s.parents.push(again);
+            if rng.one_in(3) {
+                s.parents.insert(0, again);
             }
         }
+        21 => {
+            let again = s.children.first().copied().unwrap_or(new);
+            s.children.push(again);
+            if twin.children.is_empty() {
+                s.children.push(again);
+            }
+        }
+        24 => {
+            let k = rng.index(s.parents.len() + 1);
+            s.parents.insert(k, new);
+        }
+        27 => {
+            let k = rng.index(s.children.len() + 1);
+            s.children.insert(k, new);
+        }
+        _ => {}
     }
 }
 

@@ -150,8 +150,8 @@ pub fn tell(rng: &mut Rng, run: &mut Run) {
     }
 }
 
-/// A layout with faults, or a call that 1, 2, 40, 41, 42 or stale answers; now and then none of these, and the layout is accepted.
-fn bad_try(rng: &mut Rng, run: &mut Run, world: &World, held: &mut Holding) {
+/// A layout with faults, and limits at or around its needs.
+fn faulty(rng: &mut Rng, world: &World, held: &Holding) -> (Layout, Limits) {
     let mut l = world.layout(rng);
     if rng.one_in(6) {
         l = flat(rng, l.epoch);
@@ -173,6 +173,12 @@ fn bad_try(rng: &mut Rng, run: &mut Run, world: &World, held: &mut Holding) {
     } else if rng.one_in(3) {
         limits = tight(rng, &l, size_of(&l, Name::default(), Name::default()));
     }
+    (l, limits)
+}
+
+/// A layout with faults, or a call that 1, 2, 40, 41, 42 or stale answers; now and then none of these, and the layout is accepted.
+fn bad_try(rng: &mut Rng, run: &mut Run, world: &World, held: &mut Holding) {
+    let (l, limits) = faulty(rng, world, held);
     let scant = rng.one_in(12);
     if rng.one_in(2) {
         let mut c = judge_call(rng, &l, limits, scant);
@@ -186,6 +192,17 @@ fn bad_try(rng: &mut Rng, run: &mut Run, world: &World, held: &mut Holding) {
     }
     let mut c = update_call(rng, held, &l, limits, scant);
     worsen(rng, &mut c.tables);
+    twist(rng, &mut c);
+    refit(rng, &c.tables, &mut c.areas, c.session.counts().0);
+    let normal = c.session == held.session;
+    let e = run.ask(Call::Update(c));
+    if normal {
+        held.take(&e);
+    }
+}
+
+/// Now and then another session, no layout, an older epoch, a session that was made by hand, a size of its own, damaged held tables.
+fn twist(rng: &mut Rng, c: &mut UpdateCall) {
     match rng.below(24) {
         0 => c.update.session = if rng.one_in(2) { rng.next() } else { c.update.session.wrapping_add(1) },
         1 => {
@@ -206,8 +223,7 @@ fn bad_try(rng: &mut Rng, run: &mut Run, world: &World, held: &mut Holding) {
             }
         }
         4 => {
-            c.update.size =
-                *rng.pick(&[0, u64::MAX, limits.size, limits.size.wrapping_add(1), limits.size.wrapping_sub(1)]);
+            c.update.size = *rng.pick(&[0, u64::MAX, c.limits.size, c.limits.size.wrapping_add(1), c.limits.size.wrapping_sub(1)]);
         }
         5..=7 if c.session.held => {
             let (mut h, mut g) = (c.session.rows, c.session.edges);
@@ -218,12 +234,6 @@ fn bad_try(rng: &mut Rng, run: &mut Run, world: &World, held: &mut Holding) {
             c.origin = None;
         }
         _ => {}
-    }
-    refit(rng, &c.tables, &mut c.areas, c.session.counts().0);
-    let normal = c.session == held.session;
-    let e = run.ask(Call::Update(c));
-    if normal {
-        held.take(&e);
     }
 }
 

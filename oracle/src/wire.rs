@@ -80,11 +80,7 @@ pub fn dag(layout: &Layout, controller: Name, secure: Name) -> pb::ScalableTopic
         segment_brokers: layout
             .places
             .iter()
-            .map(|p| pb::SegmentBrokerAddress {
-                segment_id: p.id,
-                broker_url: text(p.url),
-                broker_url_tls: optional_text(p.tls),
-            })
+            .map(|p| pb::SegmentBrokerAddress { segment_id: p.id, broker_url: text(p.url), broker_url_tls: optional_text(p.tls) })
             .collect(),
         controller_broker_url: name_text(controller),
         controller_broker_url_tls: name_text(secure),
@@ -143,12 +139,7 @@ pub fn written(snapshot: &DagSnapshot) -> Written {
 }
 
 pub fn limits(l: Limits) -> DagLimits {
-    DagLimits {
-        segments: l.segments as usize,
-        edges: l.edges as usize,
-        depth: l.depth as usize,
-        serialized_size: l.size as usize,
-    }
+    DagLimits { segments: l.segments as usize, edges: l.edges as usize, depth: l.depth as usize, serialized_size: l.size as usize }
 }
 
 fn descriptor_refusal(id: u64, e: &SegmentDescriptorError) -> Refusal {
@@ -218,11 +209,7 @@ impl Origin {
             return None;
         }
         let (rows, edges) = (&rows[..h * HELD], &edges[..g]);
-        let places = rows
-            .chunks_exact(HELD)
-            .filter(|r| r[11] == 1)
-            .map(|r| Place { id: r[0], url: r[12], tls: (r[13], r[14]) })
-            .collect();
+        let places = rows.chunks_exact(HELD).filter(|r| r[11] == 1).map(|r| Place { id: r[0], url: r[12], tls: (r[13], r[14]) }).collect();
         let layout = Layout { epoch: s.epoch, segments: read_segments(rows, edges, HELD), places };
         let dag = dag(&layout, s.controller, s.secure);
         let snapshot = DagSnapshot::try_from_pb_with_limits(&dag, limits(Limits::NONE)).ok()?;
