@@ -9,6 +9,7 @@ pub fn judge_list(id: SegmentId, number: u64, list: &[u64]) -> Judged
     ensures { λ r. ⌜ r ≡ listRule number (id .0) (now (list .entry)) ⌝ }
 {
     let mut i = 0;
+    let mut top = 0;
     let found = 'items: loop {
         if i >= list.len() {
             break 'items Judged::Accepted;
@@ -17,7 +18,12 @@ pub fn judge_list(id: SegmentId, number: u64, list: &[u64]) -> Judged
         if item == id.0 {
             break 'items answers::refuse(19, id.0, 0, 0, 0);
         }
+        // What is above all items before it is none of them: a list that ascends is read once.
         let mut j = 0;
+        if item > top {
+            top = item;
+            j = i;
+        }
         while j < i {
             if list[j] == item {
                 break 'items answers::refuse(number, id.0, item, 0, 0);

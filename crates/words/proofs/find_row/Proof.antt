@@ -1,138 +1,58 @@
--- `words::find_row` meets its contract: each need is arithmetic, a law that is imported, or what a callee promised.
+-- `words::find_row` meets its contract: below the first id there is nothing, and else it is `look`'s answer.
 -- Assumes nothing.
 use borrow.Author.Needs.{needs}
 use native.Mathlib.Omega.{arith}
-use mathlib.Core.Path.{_≡_, refl, sym, ap, subst, _∙_}
-use mathlib.Core.Logic.{⊎-elim}
-use mathlib.Core.List.{List, [], _∷_, _++_}
-use Prim.Native.Nat.{ℕ, zero, suc, _+_, _-_, _*_, _/_, _≤_, _<_}
-use native.Mathlib.Numerals.{lt-of-le-of-ne}
-use Rattle.lists.proofs.Cases.{lt-or-le}
-use native.Mathlib.Nat.{eq-or-lt-of-le, le-of-suc-le-suc, le-trans, lt-of-lt-of-le}
-use native.Mathlib.Numerals.{add-one}
+use native.Mathlib.Nat.{zero-mul, eq-or-lt-of-le}
+use mathlib.Core.Path.{_≡_, sym, _∙_}
+use mathlib.Core.Logic.{_⊎_, ⊎-elim}
+use mathlib.Core.List.{List}
+use Prim.Native.Nat.{ℕ, _<_, _≤_, zero-le}
+use lib.ListN.{length, getD}
 use Rattle.words.specs.Table.{ids, whereIs, Ascends}
-use Rattle.words.specs.declared.Found.the-variants.{At, Nothing}
-use Rattle.words.proofs.TableLaws.{length-ids, ids-at, is-at, is-nothing, word-in}
-use lib.ListN.{length, getD, take, drop, set, replicate, length-set}
+use Rattle.words.specs.declared.Found.the-variants.{Nothing}
+use Rattle.words.proofs.TableLaws.{length-ids, ids-at, is-nothing, word-in}
 use Rattle.words.proofs.find_row.Statement.{statement}
 use Rattle.words.proofs.find_row.Tie as tie
 
--- those before lo are below x, those from hi on above it
-record Bracket (l : List ℕ) (x n lo hi : ℕ) : Type 0 where
-  hi-le : hi ≤ n
-  below : (k : ℕ) → k < lo → getD l k 0 < x
-  above : (k : ℕ) → hi ≤ k → k < n → x < getD l k 0
+first-at : (t : List ℕ) (w n : ℕ) → 0 < n → getD (ids t w n) 0 0 ≡ getD t 0 0
+first-at t w n h = rw zero-mul at (ids-at t w n 0 h)
 
-module _ (t : List ℕ) (w n x lo hi : ℕ) (asc : Ascends (ids t w n)) (b : Bracket (ids t w n) x n lo hi) (m : ℕ) (in-hi : m < hi) where
-  in-n : m < n
-  in-n = lt-of-lt-of-le in-hi (b .hi-le)
+zero-or-more : (j : ℕ) → (0 ≡ j) ⊎ (0 < j)
+zero-or-more j = eq-or-lt-of-le zero-le
 
-  in-l : m < length (ids t w n)
-  in-l = rw length-ids in-n
+below : (t : List ℕ) (w n x : ℕ) → Ascends (ids t w n) → 0 < n → x < getD t 0 0 → Nothing ≡ whereIs (ids t w n) x
+below t w n x asc h q = sym (is-nothing (ids t w n) x (λ j p e. ⊎-elim (λ (z : 0 ≡ j). omega (arith, first-at t w n h, rw (← z) at e))
+    (λ (l : 0 < j). omega (arith, first-at t w n h, asc 0 j l p)) (zero-or-more j)))
 
-  up : getD t (m * w) 0 < x → Bracket (ids t w n) x n (m + 1) hi
-  up h = record {
-    hi-le = b .hi-le;
-    below = λ k q. ⊎-elim (λ (e : k ≡ m). rw (e, ids-at t w n m in-n) h)
-        (λ (l : k < m). omega (arith, asc k m l in-l, ids-at t w n m in-n)) (eq-or-lt-of-le (le-of-suc-le-suc (rw add-one at q)));
-    above = b .above;
-  }
+-- src/lib.rt:115:9
+returns : tie.Need-returns
+returns c = search needs
 
-  down : x < getD t (m * w) 0 → Bracket (ids t w n) x n lo m
-  down h = record {
-    hi-le = omega (arith, b .hi-le);
-    below = b .below;
-    above = λ k q q′. ⊎-elim (λ (e : m ≡ k). rw (← e, ids-at t w n m in-n) h)
-        (λ (l : m < k). omega (arith, asc m k l (rw length-ids q′), ids-at t w n m in-n)) (eq-or-lt-of-le q);
-  }
+-- src/lib.rt:117:17
+shared-slice-read-first : tie.Need-shared-slice-read-first
+shared-slice-read-first c =
+    let s = c .before .before .before in
+    rw zero-mul at (word-in 0 (s .args .count) (s .args .width) _ (omega arith) (s .pre .0) (s .pre .1 .0))
 
-  hit : getD t (m * w) 0 ≡ x → At m ≡ whereIs (ids t w n) x
-  hit e = sym (is-at (ids t w n) x m in-l (ids-at t w n m in-n ∙ e) (λ j q e′. omega (arith, asc j m q in-l, ids-at t w n m in-n)))
-
-miss : (t : List ℕ) (w n x lo hi : ℕ) → Bracket (ids t w n) x n lo hi → hi ≤ lo → Nothing ≡ whereIs (ids t w n) x
-miss t w n x lo hi b h = sym (is-nothing (ids t w n) x (λ j q e. ⊎-elim (λ (l : j < lo). omega (arith, b .below j l))
-    (λ (l : lo ≤ j). omega (arith, b .above j (le-trans h l) (rw length-ids at q))) (lt-or-le j lo)))
-
-abbrev Inv-loop : tie.InvT-loop
-Inv-loop rows width count id lo₀ hi₀ lo hi = Bracket (ids rows width count) id count lo hi
-
-abbrev μ-loop : tie.MeasureT-loop
-μ-loop rows width count id lo₀ hi₀ lo hi = hi - lo
-
--- in the loop's body: the midpoint, the word that is read there, and what a turn's lemmas take
-abbrev M : tie.In-loop Inv-loop μ-loop → ℕ
-M c = c .before .loop .lo + (c .before .loop .hi - c .before .loop .lo) / 2
-
-here : (c : tie.In-loop Inv-loop μ-loop) → M c * c .before .before .args .width < length (c .before .before .args .rows .now)
-here c = word-in (M c) (c .before .before .args .count) _ _ (omega arith) (omega arith) (c .before .before .pre .1 .0)
-
-loop-holds : tie.Need-loop-holds Inv-loop μ-loop
-loop-holds c = search needs
-
-sub-mid : tie.Need-sub-mid Inv-loop μ-loop
-sub-mid c = search needs
-
-add-mid : tie.Need-add-mid Inv-loop μ-loop
-add-mid c = search needs
-
-mul-x : tie.Need-mul-x Inv-loop μ-loop
-mul-x c = omega (arith, here c)
-
-mul-x-2 : tie.Need-mul-x-2 Inv-loop μ-loop
-mul-x-2 c = omega (arith, here c)
-
-shared-slice-read-x : tie.Need-shared-slice-read-x Inv-loop μ-loop
-shared-slice-read-x c = here (c .before)
-
-returns : tie.Need-returns Inv-loop μ-loop
-returns c =
-    let i = c .before .before in
-    let s = i .before .before in
-    hit (s .args .rows .now) (s .args .width) (s .args .count) (s .args .id) _ _ (s .pre .1 .1) (i .before .loop .inv) (M i) (omega arith) (c .if1 .taken)
-
-add-lo : tie.Need-add-lo Inv-loop μ-loop
-add-lo c = search needs
-
-loop-less : tie.Need-loop-less Inv-loop μ-loop
-loop-less c = search needs
-
-loop-again : tie.Need-loop-again Inv-loop μ-loop
-loop-again c =
-    let i = c .before .before .before in
-    let s = i .before .before in
-    up (s .args .rows .now) (s .args .width) (s .args .count) (s .args .id) _ _ (s .pre .1 .1) (i .before .loop .inv) (M i) (omega arith) (c .if2 .taken)
-
-loop-less-2 : tie.Need-loop-less-2 Inv-loop μ-loop
-loop-less-2 c = search needs
-
-loop-again-2 : tie.Need-loop-again-2 Inv-loop μ-loop
-loop-again-2 c =
-    let i = c .before .before .before in
-    let s = i .before .before in
-    down (s .args .rows .now) (s .args .width) (s .args .count) (s .args .id) _ _ (s .pre .1 .1) (i .before .loop .inv) (M i) (omega arith)
-    (lt-of-le-of-ne (c .if2 .left) (λ e. c .before .if1 .left (sym e)))
-
-returns-2 : tie.Need-returns-2 Inv-loop μ-loop
+-- src/lib.rt:119:9
+returns-2 : tie.Need-returns-2
 returns-2 c =
-    let s = c .before .before in
-    miss (s .args .rows .now) (s .args .width) (s .args .count) (s .args .id) _ _ (c .before .loop .inv) (c .loop-test .left)
+    let s = c .before .before .before .before in
+    below (s .args .rows .now) (s .args .width) (s .args .count) (s .args .id) (s .pre .1 .1) (omega arith) (c .if2 .taken)
+
+-- src/lib.rt:121:34
+guess-requires : tie.Need-guess-requires
+guess-requires c κs = search needs
+
+-- src/lib.rt:121:5
+look-requires : tie.Need-look-requires
+look-requires c κs = search needs
+
+-- src/lib.rt:108:1
+returns-3 : tie.Need-returns-3
+returns-3 c = search needs
 
 pub find-row-spec : {M : Type 1} → statement M
 find-row-spec =
     tie.close
-    (tie.spec
-    Inv-loop
-    μ-loop
-    loop-holds
-    sub-mid
-    add-mid
-    mul-x
-    mul-x-2
-    shared-slice-read-x
-    returns
-    add-lo
-    loop-less
-    loop-again
-    loop-less-2
-    loop-again-2
-    returns-2)
+    (tie.spec returns shared-slice-read-first returns-2 guess-requires look-requires returns-3)
