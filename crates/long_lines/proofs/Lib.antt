@@ -1,0 +1,5 @@
+pub mod Bare
+pub mod BareParts
+pub mod BareFields
+pub mod SameLine
+pub mod KeptReads
