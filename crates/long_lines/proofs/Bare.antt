@@ -7,7 +7,7 @@ use Prim.Native.Nat.{ℕ, _+_, _-_, _≤_}
 use native.Mathlib.Omega.{arith}
 use borrow.Author.Tests.{le-leb, eqb-true}
 use lib.Dec.{eqb}
-use lib.ListN.{length, getD, take, length-append}
+use lib.ListN.{length, take, length-append}
 use lib.Seq.{take-at, getD-append-add}
 use Rattle.reading.specs.Numbers.{zeroByte, isDigit}
 use Rattle.reading.specs.Kept.{isEdge, loneZero, keepByte, keptFrom, keptLine}
@@ -24,7 +24,7 @@ bare x (b ∷ s) = cond (leads x b s) (bare x s) (b ∷ bare b s)
 
 -- ---- what it is that leads
 
-both : (a b : Bool) → (a && b) ≡ true → (a ≡ true) × (b ≡ true)
+pub both : (a b : Bool) → (a && b) ≡ true → (a ≡ true) × (b ≡ true)
 both true b e = (refl, e)
 both false b e = absurd (let z : _≡_ {A = ℕ} 0 1 = cc in omega arith)
 

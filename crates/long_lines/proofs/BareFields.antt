@@ -3,7 +3,6 @@
 use mathlib.Core.Path.{_≡_, refl, sym, ap, _∙_}
 use mathlib.Core.Bool.{Bool, true, false, cond}
 use mathlib.Core.List.{List, [], _∷_}
-use mathlib.Core.Option.{Option}
 use Prim.Native.Nat.{ℕ, zero, suc}
 use native.Mathlib.Omega.{arith}
 use borrow.Author.Tests.{eqb-true}
@@ -11,8 +10,8 @@ use lib.Dec.{eqb}
 use Rattle.reading.specs.declared.numbers.Number.{Number}
 use Rattle.reading.specs.declared.numbers.Number.the-variants.{Value, NoNumber}
 use Rattle.reading.specs.Numbers.{isDigit, grown, onward, numberOf, plainCode, minusCode, codeOf}
-use Rattle.reading.specs.Fields.{letterOf, optionOf, present}
-use Rattle.reading.specs.Lists.{before, itemsOf, numbersOf, listOf}
+use Rattle.reading.specs.Fields.{letterOf, optionOf}
+use Rattle.reading.specs.Lists.{itemsOf, numbersOf, listOf}
 use Rattle.reading.specs.Kept.{isEdge}
 use Rattle.reading.proofs.Digits.{stuck}
 use Rattle.reading.proofs.Run.{zero-number}
@@ -29,6 +28,13 @@ edge-no-digit b e = go (eqb b 32) refl (eqb b 44) refl (eqb b 45) refl
     go false p true q w r = rw (eqb-true b 44 q) refl
     go false p false q true r = rw (eqb-true b 45 r) refl
     go false p false q false r = absurd (let f : isEdge b ≡ false = rw (p, q, r) refl in let z : _≡_ {A = ℕ} 0 1 = cc in omega arith)
+
+no-digit-is : (d m : ℕ) → isDigit d ≡ true → isDigit m ≡ false → eqb d m ≡ false
+no-digit-is d m h n = go (eqb d m) refl
+  where
+    go : (t : Bool) → eqb d m ≡ t → t ≡ false
+    go true q = absurd (let f : isDigit d ≡ false = rw (eqb-true d m q) n in let z : _≡_ {A = ℕ} 0 1 = cc in omega arith)
+    go false q = refl
 
 no-digit : (v b : ℕ) → isDigit b ≡ false → grown v b ≡ NoNumber
 unfolding grown
@@ -69,20 +75,13 @@ code-bare x [] = refl
 code-bare x (b ∷ []) = refl
 code-bare x (b ∷ d ∷ s) = go (code-bare x (d ∷ s)) (leads x b (d ∷ s)) refl
   where
-    plain : isDigit d ≡ true → eqb d 45 ≡ false
-    plain e = other (eqb d 45) refl
-      where
-        other : (t : Bool) → eqb d 45 ≡ t → t ≡ false
-        other true q = absurd (let f : isDigit d ≡ false = rw (eqb-true d 45 q) refl in let z : _≡_ {A = ℕ} 0 1 = cc in omega arith)
-        other false q = refl
-
     signed : (t : Bool) → cond t (minusCode (numberOf (bare b (d ∷ s)))) (plainCode (numberOf (b ∷ bare b (d ∷ s)))) ≡ cond t (minusCode (numberOf (d ∷ s))) (plainCode (numberOf (b ∷ d ∷ s)))
     signed true = ap minusCode (number-bare b (d ∷ s))
     signed false = ap plainCode (grown-bare 0 b (d ∷ s))
 
     go : codeOf (bare x (d ∷ s)) ≡ codeOf (d ∷ s) → (t : Bool) → leads x b (d ∷ s) ≡ t
         → codeOf (cond t (bare x (d ∷ s)) (b ∷ bare b (d ∷ s))) ≡ codeOf (b ∷ d ∷ s)
-    go ih true e = ih ∙ rw (plain (leads-digit x b d s e), leads-zero x b (d ∷ s) e, zero-number d s) refl
+    go ih true e = ih ∙ rw (no-digit-is d 45 (leads-digit x b d s e) refl, leads-zero x b (d ∷ s) e, zero-number d s) refl
     go ih false e = signed (eqb b 45)
 
 -- ---- a letter
@@ -111,12 +110,8 @@ asked-bare m x [] h n = refl
 asked-bare m x (b ∷ []) h n = refl
 asked-bare m x (b ∷ c ∷ s) h n = go (asked-bare m x (c ∷ s) h n) (leads x b (c ∷ s)) refl
   where
-    other : (t : Bool) → eqb c m ≡ t → isDigit c ≡ true → t ≡ false
-    other true q e = absurd (let f : isDigit c ≡ false = rw (eqb-true c m q) h in let z : _≡_ {A = ℕ} 0 1 = cc in omega arith)
-    other false q e = refl
-
     digits : (t : List ℕ) → isDigit c ≡ true → eqb (letterOf (c ∷ t)) m ≡ false
-    digits [] e = other (eqb c m) refl e
+    digits [] e = no-digit-is c m e h
     digits (d ∷ t) e = n
 
     go : eqb (letterOf (bare x (c ∷ s))) m ≡ eqb (letterOf (c ∷ s)) m → (t : Bool) → leads x b (c ∷ s) ≡ t

@@ -1,7 +1,7 @@
 -- The parts of a bare text are the parts of the text, each of them bare: a separator is an edge and no digit, so that no zero that leads
 -- stands across it. By induction on the text. Assumes nothing.
 use mathlib.Core.Path.{_≡_, refl, sym, ap, _∙_}
-use mathlib.Core.Bool.{Bool, true, false, cond, _&&_}
+use mathlib.Core.Bool.{Bool, true, false, cond}
 use mathlib.Core.List.{List, [], _∷_}
 use Prim.Native.Nat.{ℕ, zero, suc}
 use native.Mathlib.Omega.{arith}
@@ -10,7 +10,7 @@ use lib.Dec.{eqb}
 use lib.ListN.{length, getD, take}
 use Rattle.reading.specs.Numbers.{isDigit}
 use Rattle.reading.specs.Fields.{split, push, upTo}
-use Rattle.reading.proofs.Parts.{later, split-first}
+use Rattle.reading.proofs.Parts.{split-first}
 use Rattle.long_lines.proofs.Bare.{leads, bare, leads-zero}
 
 -- the first part behind x, each other behind its separator

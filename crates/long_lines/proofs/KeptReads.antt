@@ -1,10 +1,8 @@
 -- What is kept of a line reads as the line: a kept line is a bare one, its fields are bare fields, and a bare field says what the field
 -- says. Assumes nothing.
-use mathlib.Core.Path.{_≡_, refl, sym, ap, _∙_}
-use mathlib.Core.Bool.{cond}
-use mathlib.Core.List.{List, [], _∷_}
+use mathlib.Core.Path.{_≡_, refl, ap, _∙_}
+use mathlib.Core.List.{List}
 use Prim.Native.Nat.{ℕ, suc}
-use lib.Dec.{eqb}
 use lib.ListN.{length}
 use Rattle.reading.specs.Fields.{fieldsOf, field, letterOf}
 use Rattle.reading.specs.Lines.{modeOf, lineOf}
@@ -18,6 +16,9 @@ module _ (s : List ℕ) where
   fields : fieldsOf (keptLine s) ≡ bareParts 32 0 (fieldsOf s)
   fields = ap fieldsOf (kept-bare s) ∙ split-bare 32 refl s 0
 
+  pub kept-count : length (fieldsOf (keptLine s)) ≡ length (fieldsOf s)
+  kept-count = rw fields (parts-length 32 0 (fieldsOf s))
+
   pub field-first : field (keptLine s) 0 ≡ bare 0 (field s 0)
   field-first = rw fields (part-first 32 0 (fieldsOf s))
 
@@ -30,7 +31,7 @@ module _ (s : List ℕ) where
   same : Same (keptLine s) s
   same =
       record {
-        count = rw fields (parts-length 32 0 (fieldsOf s));
+        count = kept-count;
         letter = rw field-first (letter-bare 0 (field s 0) refl);
         number = λ k. rw (field-later k) (number-bare 32 (field s (suc k)));
         code = λ k. rw (field-later k) (code-bare 32 (field s (suc k)));

@@ -1,12 +1,9 @@
 -- Two lines with as many fields, the same letter, and fields that say the same read the same. By the definitions of the lines.
 -- Assumes nothing.
-use mathlib.Core.Path.{_≡_, refl, sym, ap, _∙_}
-use mathlib.Core.Bool.{cond}
-use mathlib.Core.List.{List, [], _∷_}
-use mathlib.Core.Option.{Option}
+use mathlib.Core.Path.{_≡_, refl}
+use mathlib.Core.List.{List}
 use Prim.Native.Nat.{ℕ, suc}
 use lib.ListN.{length}
-use Rattle.reading.specs.declared.lines.Mode.{Mode}
 use Rattle.reading.specs.Numbers.{numberOf, codeOf}
 use Rattle.reading.specs.Fields.{fieldsOf, field, letterOf, optionOf}
 use Rattle.reading.specs.Lists.{listOf}
