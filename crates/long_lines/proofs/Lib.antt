@@ -1,0 +1,10 @@
+pub mod Bare
+pub mod BareParts
+pub mod BareFields
+pub mod SameLine
+pub mod KeptReads
+pub mod NumberLengths
+pub mod FieldLengths
+pub mod Sizes
+pub mod KeptLong
+pub mod AnyLength
