@@ -5,7 +5,7 @@ use oracle::face::*;
 use oracle::lent::Fence;
 use oracle::library::Loan;
 use oracle::reading;
-use oracle::shapes::SHAPES;
+use oracle::shapes::{SHAPES, scattered};
 use oracle::tables::*;
 use oracle::wire;
 use original::dag_watch::*;
@@ -274,6 +274,14 @@ fn main() {
             let (mine, its) = at(65_536).map_or((f64::NAN, f64::NAN), |q| (growth(p.2, q.2), growth(p.1, q.1)));
             println!("| {name} | {:.2} | {mine:.2} | {its:.2} |", p.2 / p.1);
         }
+        println!("\n| update, ids scattered | rows | Rust, us | library, us | ratio |\n|---|---|---|---|---|");
+        for (name, make) in SHAPES {
+            for n in &sizes[2..] {
+                let c = Case::new(scattered(make(*n)));
+                let (rust, library) = (b.rust(&c), b.library(&c).0);
+                println!("| {name} | {n} | {rust:.1} | {library:.1} | {:.2} |", library / rust);
+            }
+        }
         if updates {
             continue;
         }
@@ -284,6 +292,7 @@ fn main() {
             for n in &[64, 4_096, 65_536][..if quick { 2 } else { 3 }] {
                 println!("{}", b.queries(name, &Case::new(make(*n))));
             }
+            println!("{}", b.queries(&format!("{name}, ids scattered"), &Case::new(scattered(make(4_096)))));
         }
         if !pages && !quick {
             std::fs::write(&args[0], plot(&lines)).expect("the plot");

@@ -2,6 +2,7 @@
 //! deeper than the default limit.
 
 use crate::grow::active;
+use crate::rng::Rng;
 use crate::tables::*;
 
 pub const LANE: usize = 256;
@@ -160,4 +161,15 @@ pub fn one_chain(n: usize) -> Layout {
         l.segments.push(s);
     }
     done(l, n)
+}
+
+/// The same layout under ids that have no order and wide gaps: a bijection of 64 bits, so that rows, lists and placements come in no order too.
+pub fn scattered(mut l: Layout) -> Layout {
+    let id = |x: u64| Rng::new(x).next();
+    for s in &mut l.segments {
+        s.id = id(s.id);
+        s.parents.iter_mut().chain(&mut s.children).for_each(|x| *x = id(*x));
+    }
+    l.places.iter_mut().for_each(|p| p.id = id(p.id));
+    l
 }
