@@ -1,5 +1,5 @@
-// The library's public calls under C names, for a host in another language: `bindings/c/threshpetal.h` declares them. Each is a few lines over
-// the call it stands for and promises the same, with an enum told as a struct of numbers (specs/Told) and a stretch as start and length.
+// The calls that a host in another language needs, under C names: `bindings/c/threshpetal.h` declares them. Each is a few lines over the
+// call it stands for and promises the same, with an enum told as a struct of numbers (specs/Told) and a stretch as start and length.
 pub mod answer;
 pub mod assigned;
 pub mod eligibility;
