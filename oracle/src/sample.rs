@@ -181,13 +181,10 @@ fn assign_line(c: &AssignCall, refusal: Refusal) -> Line {
     l.put(&[c.n as u64, c.dag_epoch, c.epoch]);
     l.refusal(refusal);
     let list: Vec<u64> = c.list.iter().flat_map(|a| [a.id, a.start.into(), a.end.into()]).collect();
-    l.table(&list, ASSIGNED * 3);
+    l.table(&list, ROWS * 3);
     l.table(&c.rows, ROWS * HELD);
     l
 }
-
-/// Records of an assignment that is stored.
-const ASSIGNED: usize = 4;
 
 fn describe_line(c: &DescribeCall, refusal: Refusal, held: &[u64]) -> Line {
     let mut l = Line::new(6);

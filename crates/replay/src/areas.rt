@@ -8,7 +8,7 @@ use crate::line::ROOM;
 use crate::names;
 use answers::Judged;
 
-// The first thing that is not as expected: word `at` of what has that number in names.rt, or its length. `what` is 0 where all is as expected.
+// The first thing that is not as expected, by its number in names.rt, 0 where all is as expected. Place 0 is its length, the words count from 1.
 pub struct Difference {
     pub what: usize,
     pub at: usize,
@@ -25,17 +25,16 @@ pub const NONE: Difference = Difference {
 
 // The line says no call.
 pub const UNREAD: Difference = Difference {
-    what: names::NOT_READ,
+    what: names::UNREAD,
     at: 0,
     found: 0,
     expected: 0,
 };
 
-// `at` a place that no word has.
 pub fn other_length(what: usize, found: usize, expected: usize) -> Difference {
     Difference {
         what,
-        at: usize::MAX,
+        at: 0,
         found: found as u64,
         expected: expected as u64,
     }
@@ -90,18 +89,31 @@ pub fn length_of(line: &[u64], first: usize, k: usize) -> usize
     ROOM
 }
 
-// The first word of a part that the area does not have; the part's length where it has all.
-fn first_other(area: &[u64; 2048], line: &[u64], p: Part, length: usize) -> usize
+// Every word of the area is the part's.
+fn compare_words(
+    what: usize,
+    area: &[u64; 2048],
+    line: &[u64],
+    p: Part,
+    length: usize,
+) -> Difference
     requires { ⌜ length ≤ 2048 ⌝ }
 {
     let mut i = 0;
     while i < length {
-        if area[i] != line::word_of(line, p, i) {
-            return i;
-        }
+        let expected = line::word_of(line, p, i);
+        let found = area[i];
         i += 1;
+        if found != expected {
+            return Difference {
+                what,
+                at: i,
+                found,
+                expected,
+            };
+        }
     }
-    length
+    NONE
 }
 
 // One difference more to look for: an area that was part `before` is part `after` now, in its length and in every word.
@@ -122,16 +134,7 @@ pub fn compare(
     if p.length != length {
         return other_length(what, length, p.length);
     }
-    let i = first_other(area, line, p, length);
-    if i >= length {
-        return d;
-    }
-    Difference {
-        what,
-        at: i,
-        found: area[i],
-        expected: line::word_of(line, p, i),
-    }
+    compare_words(what, area, line, p, length)
 }
 
 // The same of words that are no area: those of an answer, which stand in the line as single numbers from `at` on.
@@ -148,15 +151,16 @@ pub fn compare_numbers(
     let mut i = 0;
     while i < words.len() {
         let expected = line::number_at(line, line::further(at, i as u64));
-        if words[i] != expected {
+        let found = words[i];
+        i += 1;
+        if found != expected {
             return Difference {
                 what,
                 at: i,
-                found: words[i],
+                found,
                 expected,
             };
         }
-        i += 1;
     }
     d
 }

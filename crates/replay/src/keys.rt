@@ -1,10 +1,9 @@
-// The key of a case: the number of the refusal that is expected, or a number above all of them for an answer that refuses nothing.
+// The key of a case: the number of the refusal that is expected, or a number above all of them for an answer that refuses nothing; and how many
+// cases of each key were equal.
 use crate::line;
-use crate::names::number;
+use crate::names::answer_name;
+use crate::names::say;
 use crate::names::text;
-
-// How many keys there are.
-pub const KEYS: usize = 80;
 
 const ACCEPTED: usize = 64;
 
@@ -42,25 +41,11 @@ fn ordering_key(outcome: u64, number: u64) -> usize {
     }
 }
 
-fn word_of(key: usize) {
-    match key {
-        64 => text(b"accepted"),
-        65 => text(b"stale"),
-        66 => text(b"split"),
-        67 => text(b"merge"),
-        68 => text(b"removed"),
-        69 => text(b"unknown"),
-        70 => text(b"blocked"),
-        71 => text(b"eligible"),
-        _ => text(b"broker-managed"),
-    }
-}
-
-pub fn key_name(key: usize) {
+fn key_name(key: usize) {
     if key < ACCEPTED {
-        number(key as u64);
+        say(b"", key as u64);
     } else {
-        word_of(key);
+        answer_name(key - ACCEPTED);
     }
 }
 
@@ -78,5 +63,31 @@ pub fn key_of(line: &[u64]) -> usize {
         4 => refusal_key(line::number_at(line, 5), ACCEPTED),
         5 => refusal_key(line::number_at(line, 4), ACCEPTED),
         _ => refusal_key(line::number_at(line, 17), ACCEPTED),
+    }
+}
+
+// One more of that key.
+pub fn count(counts: &mut [u64], key: usize) {
+    if key < counts.len() {
+        if counts[key] < u64::MAX {
+            counts[key] += 1;
+        }
+    }
+}
+
+// A key that was met, and how often.
+fn show_count(key: usize, n: u64) {
+    if n > 0 {
+        key_name(key);
+        say(b": ", n);
+        text(b"\n");
+    }
+}
+
+pub fn show(counts: &[u64]) {
+    let mut key = 0;
+    while key < counts.len() {
+        show_count(key, counts[key]);
+        key += 1;
     }
 }

@@ -3,10 +3,10 @@
 // how the sample is made. The lines of each call are described in its file, and parts of a line in line.rt.
 use crate::areas::Difference;
 use crate::reader::Reader;
-use crate::tally::count;
 
 mod areas;
 mod asked;
+mod assigned;
 mod described;
 mod judged;
 mod keys;
@@ -15,7 +15,6 @@ mod line;
 mod names;
 mod reader;
 mod stretches;
-mod tally;
 mod updated;
 
 // The call that the line's first number names.
@@ -26,54 +25,35 @@ fn replay(line: &[u64]) -> Difference {
         2 => lent::replay(line, updated::PARTS, 19, 11),
         3 => asked::replay(line),
         4 => stretches::replay(line),
+        5 => assigned::replay(line),
         6 => described::replay(line),
         _ => areas::UNREAD,
     }
 }
 
-fn show_place(at: usize) {
-    if at == usize::MAX {
-        names::text(b", length is ");
-        return;
-    }
-    names::text(b", word ");
-    names::number(at as u64);
-    names::text(b" is ");
-}
-
-// Where the words differ, with the line's number.
+// What differs, with the line's number.
 fn show_difference(lines: u64, d: Difference) {
-    names::text(b"line ");
-    names::number(lines);
-    if d.what == names::NOT_READ {
-        names::text(b": not read\n");
-        return;
-    }
+    names::say(b"line ", lines);
     names::text(b": ");
     names::part_name(d.what);
-    show_place(d.at);
-    names::number(d.found);
-    names::text(b" where ");
-    names::number(d.expected);
-    names::text(b" was expected\n");
+    names::say(b"place ", d.at as u64);
+    names::say(b" is ", d.found);
+    names::say(b" where expected ", d.expected);
+    names::text(b"\n");
 }
 
 // A whole line.
 fn take_line(r: Reader, line: &[u64], counts: &mut [u64]) -> Reader {
-    let next = reader::next_line(r);
     let mut d = areas::UNREAD;
     if !r.bad {
         d = replay(line);
     }
+    let next = reader::next_line(r, d.what != 0);
     if d.what != 0 {
         show_difference(next.lines, d);
-        return reader::with_difference(next);
+        return next;
     }
-    count(
-        counts,
-        keys::key_of(line),
-        line::number_at(line, 0) as usize,
-    );
+    keys::count(counts, keys::key_of(line));
     next
 }
 
@@ -95,17 +75,16 @@ fn take(r: Reader, b: u8, token: &mut [u8], line: &mut [u64], counts: &mut [u64]
 }
 
 fn show(r: Reader, counts: &[u64]) {
-    tally::show(counts);
-    names::number(r.lines);
-    names::text(b" cases, ");
-    names::number(r.differ);
+    keys::show(counts);
+    names::say(b"", r.lines);
+    names::say(b" cases, ", r.differ);
     names::text(b" differ\n");
 }
 
 fn main() {
     let mut token = [0u8; 20];
     let mut line = [0u64; 2048];
-    let mut counts = [0u64; 560];
+    let mut counts = [0u64; 73];
     let mut buffer = io::buffer();
     let mut n = 0;
     let mut i = 0;

@@ -1,7 +1,8 @@
-// What can differ, by number, and how it is called.
+// What is printed. Names stand in tables of 15 bytes each.
 use libc::STDOUT_FILENO;
 
-pub const NOT_READ: usize = 1;
+// What can differ.
+pub const UNREAD: usize = 1;
 
 pub const ANSWER: usize = 2;
 
@@ -13,38 +14,43 @@ pub const FIRST: usize = 5;
 
 pub const SECOND: usize = 6;
 // The areas of the judge and the update, in the order in which they are lent.
-pub const WORK: usize = 10;
+pub const WORK: usize = 7;
 
-pub const ADDED: usize = 14;
+pub const ADDED: usize = 11;
 
 pub fn text(bytes: &[u8]) {
     io::write_all(STDOUT_FILENO, bytes);
 }
 
-pub fn number(n: u64) {
+pub fn say(before: &[u8], n: u64) {
+    text(before);
     io::print_decimal(STDOUT_FILENO, n);
 }
 
-fn area_name(what: usize) {
-    match what {
-        10 => text(b"work"),
-        11 => text(b"held rows"),
-        12 => text(b"held edges"),
-        13 => text(b"order"),
-        14 => text(b"added"),
-        15 => text(b"removed"),
-        16 => text(b"splits"),
-        _ => text(b"merges"),
+// Name i of a table, if it has one.
+fn name(table: &[u8], i: usize) {
+    if i >= 16 {
+        return;
+    }
+    let from = i * 15;
+    let to = from + 15;
+    if to <= table.len() {
+        text(&table[from..to]);
     }
 }
 
+// Of a part of a case.
 pub fn part_name(what: usize) {
-    match what {
-        2 => text(b"answer"),
-        3 => text(b"session"),
-        4 => text(b"stretch"),
-        5 => text(b"first list"),
-        6 => text(b"second list"),
-        _ => area_name(what),
-    }
+    name(
+        b"none           not read       answer         session        stretch        first list     second list    work           held rows      held edges     order          added          removed        splits         merges         ",
+        what,
+    );
+}
+
+// Of an answer that refuses nothing.
+pub fn answer_name(i: usize) {
+    name(
+        b"accepted       stale          split          merge          removed        unknown        blocked        eligible       broker-managed ",
+        i,
+    );
 }

@@ -24,29 +24,25 @@ pub fn start() -> Reader {
     }
 }
 
-// One more, which stays in 64 bits: no run reads as many lines.
-fn one_more(n: u64) -> u64 {
-    if n < u64::MAX {
-        return n + 1;
+// One more where it is so; no run reads as many lines as 64 bits can count.
+fn one_more(n: u64, so: bool) -> u64 {
+    if so {
+        if n < u64::MAX {
+            return n + 1;
+        }
     }
     n
 }
 
 // The next line begins.
-pub fn next_line(r: Reader) -> Reader {
+pub fn next_line(r: Reader, differs: bool) -> Reader {
     Reader {
         bytes: 0,
         words: 0,
         bad: false,
-        lines: one_more(r.lines),
-        differ: r.differ,
+        lines: one_more(r.lines, true),
+        differ: one_more(r.differ, differs),
     }
-}
-
-pub fn with_difference(r: Reader) -> Reader {
-    let mut next = r;
-    next.differ = one_more(r.differ);
-    next
 }
 
 // The first words of the line, or all of them.

@@ -4,6 +4,7 @@
 // after it.
 use crate::areas;
 use crate::areas::Difference;
+use crate::assigned::half_of;
 use crate::judged::limits_at;
 use crate::line;
 use crate::line::further;
@@ -11,6 +12,7 @@ use crate::line::number_at;
 use crate::names;
 use answers::Updated;
 use types::records::Name;
+use types::records::Outcome;
 use types::records::Session;
 use types::records::Update;
 
@@ -46,14 +48,6 @@ fn session_of(line: &[u64]) -> Session {
     }
 }
 
-// A code of 32 bits; 0 for what is none.
-fn code_of(word: u64) -> u32 {
-    if word <= 4294967295 {
-        return word as u32;
-    }
-    0
-}
-
 fn update_of(line: &[u64]) -> Update {
     Update {
         session: number_at(line, 12),
@@ -61,7 +55,7 @@ fn update_of(line: &[u64]) -> Update {
         epoch: number_at(line, 14),
         size: number_at(line, 15),
         error: is_set(line, 16),
-        code: code_of(number_at(line, 17)),
+        code: half_of(number_at(line, 17)),
         message: name_at(line, 18),
         resolved: name_at(line, 20),
         controller: name_at(line, 22),
@@ -113,6 +107,12 @@ fn compare_session(d: Difference, s: Session, line: &[u64]) -> Difference {
     areas::compare_numbers(d, names::SESSION, &words, line, AFTER)
 }
 
+fn compare_outcome(o: Outcome, line: &[u64]) -> Difference {
+    let answer = o.answer;
+    let d = compare_answer(answer, line);
+    compare_session(d, o.session, line)
+}
+
 // The call, and what it answers by value.
 fn ask_by_value(
     line: &[u64],
@@ -141,9 +141,7 @@ fn ask_by_value(
         splits,
         merges,
     );
-    let answer = outcome.answer;
-    let d = compare_answer(answer, line);
-    compare_session(d, outcome.session, line)
+    compare_outcome(outcome, line)
 }
 
 // The call with its four lists, and what of them and of the answer is not as expected.

@@ -15,7 +15,7 @@ use Rattle.replay.proofs.show.Reads as show-reads
 use Rattle.replay.proofs.take.Reads as take-reads
 
 abbrev Inv-loop : tie.InvT-loop
-Inv-loop token₀ line₀ counts₀ buffer₀ n₀ i₀ r₀ left₀ token line counts buffer n i r left = (20 ≡ length token) × (2048 ≡ length line) × (560 ≡ length counts) × (4096 ≡ length buffer)
+Inv-loop token₀ line₀ counts₀ buffer₀ n₀ i₀ r₀ left₀ token line counts buffer n i r left = (20 ≡ length token) × (2048 ≡ length line) × (73 ≡ length counts) × (4096 ≡ length buffer)
 
 abbrev μ-loop : tie.MeasureT-loop
 μ-loop token₀ line₀ counts₀ buffer₀ n₀ i₀ r₀ left₀ token line counts buffer n i r left = left
