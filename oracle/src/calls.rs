@@ -1,7 +1,7 @@
 //! A call is a value with all that the library is lent; an outcome is its answer and every lent word afterwards.
 
 use crate::face::*;
-use crate::tables::Tables;
+use crate::tables::{Place, Segment, Tables};
 use crate::wire::Origin;
 use std::rc::Rc;
 
@@ -97,6 +97,13 @@ pub struct AssignCall {
     pub dag_epoch: u64,
     pub epoch: u64,
     pub origin: Option<Rc<Origin>>,
+}
+
+/// The descriptor call, which the C face does not have: a segment's row, and the placement that is joined to it.
+#[derive(Clone)]
+pub struct DescribeCall {
+    pub segment: Segment,
+    pub placed: Option<Place>,
 }
 
 #[derive(Clone)]

@@ -8,7 +8,7 @@ use crate::wire::{self, Origin};
 use original::dag_watch::*;
 use original::pb;
 use original::scalable_consumer::{ConsumerAssignment, canonical_segment_topic};
-use original::types::{KeyRange, SegmentId};
+use original::types::{KeyRange, SegmentDescriptor, SegmentId};
 use prost::Message as _;
 use std::collections::BTreeSet;
 use std::rc::Rc;
@@ -408,6 +408,18 @@ pub fn assign(c: &AssignCall) -> Expected {
         agree("an assignment", &rust, &read);
     }
     said(read, by)
+}
+
+/// The descriptor call: its answer, the held row that it makes (all 0 where it refuses), and who says so.
+pub fn describe(c: &DescribeCall) -> (Refusal, [u64; HELD], Judge) {
+    if reading::bad_head(&c.segment.row()) || c.placed.as_ref().is_some_and(|p| p.tls.0 > 1) {
+        return (Refusal::new(1, &[]), [0; HELD], Judge::Reading);
+    }
+    let placed = c.placed.as_ref().map(wire::address);
+    match SegmentDescriptor::try_from_pb(&wire::info(&c.segment), placed.as_ref()) {
+        Ok(d) => (Refusal::NONE, wire::held_row(&d), Judge::Rust),
+        Err(e) => (wire::descriptor_refusal(c.segment.id, &e), [0; HELD], Judge::Rust),
+    }
 }
 
 pub fn expected(call: &Call) -> Expected {

@@ -10,6 +10,7 @@ pub mod listing;
 pub mod reading;
 pub mod rng;
 pub mod run;
+pub mod sample;
 pub mod shapes;
 pub mod shrink;
 pub mod small;

@@ -1,8 +1,9 @@
-//! oracle [COUNT | SECONDSs] [SEED] [small] [pages] [story=N] [listing=N]
+//! oracle [COUNT | SECONDSs] [SEED] [small] [pages] [story=N] [listing=N] [sample=SEED]
 //!
 //! Plays stories until COUNT answers were compared or SECONDS have passed, and prints how often each answer was met. `small` runs all
 //! small layouts first; `pages` lends every area between pages that may not be touched; `story` plays one story alone;
-//! `listing` runs the listing program (its command stands in THRESHPETAL_LISTING) on that many inputs instead, text against text.
+//! `listing` runs the listing program (its command stands in THRESHPETAL_LISTING) on that many inputs instead, text against text;
+//! `sample` prints the calls that crates/replay replays, with what is expected of each, and compares them on the way.
 
 use oracle::calls::*;
 use oracle::face::*;
@@ -10,6 +11,7 @@ use oracle::lent::Fence;
 use oracle::library::*;
 use oracle::rng::Rng;
 use oracle::run::Run;
+use oracle::sample::Sample;
 use oracle::story::*;
 use oracle::{grow, listing, shapes, shrink, small, spoil};
 use std::time::{Duration, Instant};
@@ -22,10 +24,11 @@ struct Wish {
     pages: bool,
     story: Option<u64>,
     listing: Option<u64>,
+    sample: Option<u64>,
 }
 
 fn wish() -> Wish {
-    let mut w = Wish { answers: 60_000, time: None, seed: 1, small: false, pages: false, story: None, listing: None };
+    let mut w = Wish { answers: 60_000, time: None, seed: 1, small: false, pages: false, story: None, listing: None, sample: None };
     let mut numbers = 0;
     for a in std::env::args().skip(1) {
         if a == "small" {
@@ -36,6 +39,8 @@ fn wish() -> Wish {
             w.story = n.parse().ok();
         } else if let Some(n) = a.strip_prefix("listing=") {
             w.listing = n.parse().ok();
+        } else if let Some(n) = a.strip_prefix("sample=") {
+            w.sample = n.parse().ok();
         } else if let Some(s) = a.strip_suffix('s').and_then(|s| s.parse().ok()) {
             w.time = Some(Duration::from_secs(s));
             w.answers = u64::MAX;
@@ -48,7 +53,7 @@ fn wish() -> Wish {
             }
             numbers += 1;
         } else {
-            eprintln!("usage: oracle [COUNT | SECONDSs] [SEED] [small] [pages] [story=N] [listing=N]");
+            eprintln!("usage: oracle [COUNT | SECONDSs] [SEED] [small] [pages] [story=N] [listing=N] [sample=SEED]");
             std::process::exit(2);
         }
     }
@@ -228,8 +233,33 @@ fn listings(seed: u64, count: u64) -> ! {
     std::process::exit(0);
 }
 
+/// The stories that a sample is drawn from.
+const SAMPLED: u64 = 4096;
+
+/// Prints a sample of calls and what is expected of them. The library is asked each of them too.
+fn sample(seed: u64) -> ! {
+    let mut library = Library::new(Some(Fence::Words));
+    let mut run = Run::new(&mut library);
+    let mut kept = Sample::default();
+    for n in 0..SAMPLED {
+        kept.next_story(&mut Rng::of_story(!seed, n));
+        run.sample = Some(kept);
+        play(seed, n, &mut run);
+        kept = run.sample.take().unwrap_or_default();
+        if run.broken() {
+            report(&mut run, seed, &format!("story {n}"));
+        }
+    }
+    print!("{}", kept.text());
+    eprintln!("{}", kept.summary());
+    std::process::exit(0);
+}
+
 fn main() {
     let w = wish();
+    if let Some(seed) = w.sample {
+        sample(seed);
+    }
     if let Some(n) = w.listing {
         listings(w.seed, n);
     }

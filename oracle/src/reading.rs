@@ -7,7 +7,7 @@ use std::collections::{BTreeMap, BTreeSet};
 
 const WIDE: u64 = 0xFFFF_FFFF;
 
-fn bad_head(r: &[u64]) -> bool {
+pub fn bad_head(r: &[u64]) -> bool {
     r[1] > WIDE || r[2] > WIDE || r[3] > WIDE || r[5] > 1 || r[7] > 1
 }
 

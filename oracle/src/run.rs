@@ -3,6 +3,7 @@
 use crate::calls::*;
 use crate::expected::{Expected, expected};
 use crate::library::Subject;
+use crate::sample::Sample;
 use std::collections::BTreeMap;
 
 pub struct Difference {
@@ -16,11 +17,13 @@ pub struct Run<'a> {
     pub met: BTreeMap<(u64, &'static str, &'static str), (u64, u64)>,
     pub answers: u64,
     pub difference: Option<Box<Difference>>,
+    /// Where calls are offered to be stored.
+    pub sample: Option<Sample>,
 }
 
 impl<'a> Run<'a> {
     pub fn new(subject: &'a mut dyn Subject) -> Self {
-        Self { subject, met: BTreeMap::new(), answers: 0, difference: None }
+        Self { subject, met: BTreeMap::new(), answers: 0, difference: None, sample: None }
     }
 
     /// Whether to stop.
@@ -37,6 +40,9 @@ impl<'a> Run<'a> {
         match want.judge {
             Judge::Rust => count.0 += 1,
             Judge::Reading => count.1 += 1,
+        }
+        if let Some(s) = &mut self.sample {
+            s.offer(&call, &want);
         }
         if got != want.outcome && self.difference.is_none() {
             let lines = differences(&want.outcome, &got);

@@ -20,6 +20,25 @@ pub struct Segment {
     pub children: Vec<u64>,
 }
 
+impl Segment {
+    /// Its row, of which the edge counts are all that it says of its lists.
+    pub fn row(&self) -> [u64; ROW] {
+        [
+            self.id,
+            self.start,
+            self.end,
+            self.state,
+            self.created,
+            self.seal.0,
+            self.seal.1,
+            self.legacy.0,
+            self.legacy.1,
+            self.parents.len() as u64,
+            self.children.len() as u64,
+        ]
+    }
+}
+
 #[derive(Clone, Debug, PartialEq, Eq)]
 pub struct Place {
     pub id: u64,
@@ -50,19 +69,7 @@ impl Layout {
             places: Vec::with_capacity(self.places.len() * PLACE),
         };
         for s in &self.segments {
-            t.rows.extend_from_slice(&[
-                s.id,
-                s.start,
-                s.end,
-                s.state,
-                s.created,
-                s.seal.0,
-                s.seal.1,
-                s.legacy.0,
-                s.legacy.1,
-                s.parents.len() as u64,
-                s.children.len() as u64,
-            ]);
+            t.rows.extend_from_slice(&s.row());
             t.edges.extend_from_slice(&s.parents);
             t.edges.extend_from_slice(&s.children);
         }

@@ -55,40 +55,42 @@ pub fn state_word(wire: i32) -> u64 {
     u64::from((wire as u32).wrapping_add(1))
 }
 
+/// A segment's message.
+pub fn info(s: &Segment) -> pb::SegmentInfoProto {
+    pb::SegmentInfoProto {
+        segment_id: s.id,
+        hash_start: s.start as u32,
+        hash_end: s.end as u32,
+        state: wire_state(s.state),
+        parent_ids: s.parents.clone(),
+        child_ids: s.children.clone(),
+        created_at_epoch: s.created,
+        sealed_at_epoch: (s.seal.0 == 1).then_some(s.seal.1),
+        created_at_ms: 0,
+        sealed_at_ms: None,
+        legacy_topic_name: optional_text(s.legacy),
+        entry_bucket_splits: Vec::new(),
+    }
+}
+
+/// A placement's message.
+pub fn address(p: &Place) -> pb::SegmentBrokerAddress {
+    pb::SegmentBrokerAddress { segment_id: p.id, broker_url: text(p.url), broker_url_tls: optional_text(p.tls) }
+}
+
 /// The message for tables that pass 1.
 pub fn dag(layout: &Layout, controller: Name, secure: Name) -> pb::ScalableTopicDag {
     pb::ScalableTopicDag {
         epoch: layout.epoch,
-        segments: layout
-            .segments
-            .iter()
-            .map(|s| pb::SegmentInfoProto {
-                segment_id: s.id,
-                hash_start: s.start as u32,
-                hash_end: s.end as u32,
-                state: wire_state(s.state),
-                parent_ids: s.parents.clone(),
-                child_ids: s.children.clone(),
-                created_at_epoch: s.created,
-                sealed_at_epoch: (s.seal.0 == 1).then_some(s.seal.1),
-                created_at_ms: 0,
-                sealed_at_ms: None,
-                legacy_topic_name: optional_text(s.legacy),
-                entry_bucket_splits: Vec::new(),
-            })
-            .collect(),
-        segment_brokers: layout
-            .places
-            .iter()
-            .map(|p| pb::SegmentBrokerAddress { segment_id: p.id, broker_url: text(p.url), broker_url_tls: optional_text(p.tls) })
-            .collect(),
+        segments: layout.segments.iter().map(info).collect(),
+        segment_brokers: layout.places.iter().map(address).collect(),
         controller_broker_url: name_text(controller),
         controller_broker_url_tls: name_text(secure),
     }
 }
 
 /// The held row of a descriptor.
-fn held_row(d: &SegmentDescriptor) -> [u64; HELD] {
+pub fn held_row(d: &SegmentDescriptor) -> [u64; HELD] {
     let state = match d.state {
         SegmentState::Active => 1,
         SegmentState::Sealed => 2,
@@ -142,7 +144,7 @@ pub fn limits(l: Limits) -> DagLimits {
     DagLimits { segments: l.segments as usize, edges: l.edges as usize, depth: l.depth as usize, serialized_size: l.size as usize }
 }
 
-fn descriptor_refusal(id: u64, e: &SegmentDescriptorError) -> Refusal {
+pub fn descriptor_refusal(id: u64, e: &SegmentDescriptorError) -> Refusal {
     match e {
         SegmentDescriptorError::InvalidRange(KeyRangeError::StartOutOfBounds { start }) => Refusal::new(10, &[id, u64::from(*start)]),
         SegmentDescriptorError::InvalidRange(KeyRangeError::EndOutOfBounds { end }) => Refusal::new(11, &[id, u64::from(*end)]),
