@@ -1,8 +1,10 @@
 -- Document 01, "Answers by number": number and values of each answer, and how rules are written.
 -- Assumes nothing.
-use Prim.Native.Nat.{ℕ}
+use Prim.Native.Nat.{ℕ, zero, suc}
 use mathlib.Core.Bool.{Bool, true, false, cond}
 use mathlib.Core.List.{List, [], _∷_}
+use lib.ListN.{getD, take}
+use Rattle.answers.specs.Kinds.{valuesCarried}
 use Rattle.answers.specs.declared.Refusal.{Refusal}
 use Rattle.answers.specs.declared.Judged.{Judged}
 use Rattle.answers.specs.declared.Judged.the-variants.{Accepted, Refused}
@@ -12,10 +14,15 @@ use Rattle.answers.specs.declared.Updated.{Updated}
 use Rattle.answers.specs.declared.Updated.the-variants as U
 
 infixr 5 _then_
--- ---- number and values, for each answer that is an enum. 0 and none where nothing is refused; the number says how many of the values it carries.
+-- ---- number and values, for each answer that is an enum: 0 and none where nothing is refused
 
+-- the values that a number carries, by 01's table
 abbrev pub refusalValues : Refusal → List ℕ
-refusalValues r = r .a ∷ r .b ∷ r .c ∷ r .d ∷ []
+refusalValues r = take (valuesCarried (r .number)) (r .a ∷ r .b ∷ r .c ∷ r .d ∷ [])
+
+-- a refusal by its number and values; the words past them are 0
+abbrev pub refusalBy : ℕ → List ℕ → Refusal
+refusalBy n values = record { number = n; a = getD values 0 0; b = getD values 1 0; c = getD values 2 0; d = getD values 3 0 }
 
 abbrev pub numberOf : Judged → ℕ
 numberOf Accepted = 0
@@ -65,6 +72,11 @@ refuse3 n a b c = Refused (record { number = n; a = a; b = b; c = c; d = 0 })
 
 abbrev pub refuse4 : ℕ → ℕ → ℕ → ℕ → ℕ → Judged
 refuse4 n a b c d = Refused (record { number = n; a = a; b = b; c = c; d = d })
+
+-- what a number and values tell: nothing is refused where the number is 0
+abbrev pub byNumber : ℕ → List ℕ → Judged
+byNumber zero values = Accepted
+byNumber (suc n) values = Refused (refusalBy (suc n) values)
 
 -- the refusal r where the test holds
 abbrev pub when : Bool → Judged → Judged

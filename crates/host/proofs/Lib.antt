@@ -1,5 +1,6 @@
 pub mod Capped
 pub mod Enough
+pub mod Numbers
 pub mod Spans
 pub mod Unique
 pub mod Updated

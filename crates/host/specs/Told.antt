@@ -2,6 +2,7 @@
 -- Assumes nothing.
 use Prim.Native.Nat.{ℕ}
 use mathlib.Core.Bool.{Bool, true, false}
+use Rattle.answers.specs.Answer.{refusalBy, eligibilityNumber, eligibilityValues}
 use Rattle.answers.specs.declared.Refusal.{Refusal}
 use Rattle.answers.specs.declared.Judged.{Judged}
 use Rattle.answers.specs.declared.Judged.the-variants as J
@@ -36,7 +37,7 @@ outcomeOf (E.BrokerManaged m) = 3
 -- 51 carries the segment; its list stands in the first ordering list
 abbrev pub barOf : Eligibility → Refusal
 barOf (E.Refused r) = r
-barOf (E.Unprovable id n) = record { number = 51; a = id; b = 0; c = 0; d = 0 }
+barOf (E.Unprovable id n) = refusalBy (eligibilityNumber (E.Unprovable id n)) (eligibilityValues (E.Unprovable id n))
 barOf (E.Blocked n m) = noRefusal
 barOf E.Eligible = noRefusal
 barOf (E.BrokerManaged m) = noRefusal

@@ -1,7 +1,7 @@
 // What never changes: the table of refusals and the default limits.
 ghost use mathlib.Core.Path.{_≡_};
 ghost use Rattle.answers.specs.Kinds.{kindOf};
-ghost use Rattle.layout.specs.Lent.{defaultLimits};
+ghost use Rattle.rules.specs.Tables.{defaultLimits};
 use answers::kinds::Kind;
 use types::limits::DagLimits;
 

@@ -17,7 +17,7 @@ use Rattle.answers.specs.declared.Refusal.{Refusal}
 use Rattle.answers.specs.declared.Judged.{Judged}
 use Rattle.answers.specs.declared.Judged.the-variants.{Accepted, Refused}
 use Rattle.layout.specs.Laid.{ImageOf}
-use Rattle.layout.specs.Lent.{ifAccepted}
+use Rattle.rules.specs.Judge.{areasAfter}
 
 module _ (w₀ w table edges places : List ℕ) (n m : ℕ) (all : edgesFrom rowWidth table n 0 ≡ length edges) (once : NoTwins table rowWidth n)
     (ready : Ready w₀ table n places m (n * heldWidth + length edges) (n * heldWidth + length edges + 3 * n))
@@ -37,8 +37,8 @@ module _ (w₀ w table edges places : List ℕ) (n m : ℕ) (all : edgesFrom row
 
 -- ---- where a layout was refused nothing changes; where it was accepted its words come in
 
-pub refused-keeps : (j : Judged) (r : Refusal) (new old : List ℕ) → j ≡ Refused r → old ≡ ifAccepted j new old
+pub refused-keeps : (j : Judged) (r : Refusal) (new old : List ℕ) → j ≡ Refused r → old ≡ areasAfter j new old
 refused-keeps j r new old told = rw told
 
-pub accepted-takes : (j : Judged) (v new old : List ℕ) → j ≡ Accepted → v ≡ new → v ≡ ifAccepted j new old
+pub accepted-takes : (j : Judged) (v new old : List ℕ) → j ≡ Accepted → v ≡ new → v ≡ areasAfter j new old
 accepted-takes j v new old told e = rw (told, e)

@@ -22,7 +22,7 @@ use native.Mathlib.Omega.{arith}
 use Rattle.shape.proofs.Good.{layout-rows, layout-counts, layout-places}
 use Rattle.shape.proofs.Enough.{enough-to-judge}
 use Rattle.layout.specs.Laid.{ImageOf, LaidOut, Fit, orderAt}
-use Rattle.layout.specs.Lent.{tablesOf, areasOf, ifAccepted, Owed}
+use Rattle.layout.specs.Lent.{tablesOf, areasOf, Owed}
 
 module _ (epoch size : ℕ) (limits : DagLimits) (rows edges places work held links order : List ℕ) (x : Bool) (said : x ≡ badLayout rows edges places) where
   abbrev t : Tables
@@ -65,18 +65,18 @@ module _ (epoch size : ℕ) (limits : DagLimits) (rows edges places work held li
       unfolding pastRoom
       past = rw (fine, enough)
 
-      kept : (new old l : List ℕ) (get : Areas → List ℕ) → get a ≡ old → (j ≡ Accepted → new ≡ get (filled limits t a)) → l ≡ ifAccepted j new old
+      kept : (new old l : List ℕ) (get : Areas → List ℕ) → get a ≡ old → (j ≡ Accepted → new ≡ get (filled limits t a)) → l ≡ areasAfter j new old
           → l ≡ get (areasAfter (judgement epoch size limits t (length work) a) (filled limits t a) a)
       kept new old l get o n e = e ∙ (go j refl ∙ ap (λ (k : Judged). get (areasAfter k (filled limits t a) a)) (sym whole))
         where
-          go : (k : Judged) → j ≡ k → ifAccepted k new old ≡ get (areasAfter k (filled limits t a) a)
+          go : (k : Judged) → j ≡ k → areasAfter k new old ≡ get (areasAfter k (filled limits t a) a)
           go Accepted s = n s
           go (Refused r) s = sym o
 
       pub past-room : (v : Judged) (work′ held′ links′ order′ : List ℕ) → v ≡ j → work′ ≡ replicate (length w) 0 → length w ≡ length work
-          → held′ ≡ ifAccepted j (front (imageRows w (length rows / rowWidth)) held) held
-          → links′ ≡ ifAccepted j (front (imageEdges w (length rows / rowWidth) (length edges)) links) links
-          → order′ ≡ ifAccepted j (front (part w (orderAt (length rows / rowWidth) (length edges)) (length rows / rowWidth)) order) order
+          → held′ ≡ areasAfter j (front (imageRows w (length rows / rowWidth)) held) held
+          → links′ ≡ areasAfter j (front (imageEdges w (length rows / rowWidth) (length edges)) links) links
+          → order′ ≡ areasAfter j (front (part w (orderAt (length rows / rowWidth) (length edges)) (length rows / rowWidth)) order) order
           → Owed epoch size limits t work a v work′ held′ links′ order′
       unfolding filled
       past-room v work′ held′ links′ order′ e z same h l o =

@@ -3,7 +3,6 @@
 use Prim.Native.Nat.{ℕ}
 use mathlib.Core.List.{List}
 use Rattle.answers.specs.declared.Judged.{Judged}
-use Rattle.answers.specs.declared.Judged.the-variants.{Accepted, Refused}
 use Rattle.types.specs.declared.limits.DagLimits.{DagLimits}
 use mathlib.Core.Path.{_≡_}
 use lib.ListN.{length}
@@ -14,15 +13,6 @@ tablesOf rows edges places = record { rows = rows; edges = edges; places = place
 
 abbrev pub areasOf : List ℕ → List ℕ → List ℕ → Areas
 areasOf held links order = record { held = held; links = links; order = order }
-
--- "Default limits: 4,096 segments, 16,384 edges, depth 256, size 1,048,576"
-abbrev pub defaultLimits : DagLimits
-defaultLimits = record { segments = 4096; edges = 16384; depth = 256; size = 1048576 }
-
--- what an area holds afterwards: the new words where the layout was accepted, and else the old ones
-abbrev pub ifAccepted : Judged → List ℕ → List ℕ → List ℕ
-ifAccepted Accepted new old = new
-ifAccepted (Refused r) new old = old
 
 -- The judge's whole promise: the answer, and every lent word afterwards, from all inputs. Each part is an equation, so two answers that satisfy it are equal.
 pub record Owed (epoch size : ℕ) (limits : DagLimits) (t : Tables) (work : List ℕ) (a : Areas) (answered : Judged) (work′ held′ links′ order′ : List ℕ) : Type 0 where

@@ -7,12 +7,13 @@ ghost use Rattle.lists.specs.Lists.{front};
 ghost use Rattle.words.specs.Part.{part};
 ghost use Rattle.answers.specs.declared.Judged.the-variants.{Accepted};
 ghost use Rattle.words.specs.Twins.{NoTwins};
-ghost use Rattle.rules.specs.Tables.{rowWidth, heldWidth, edgesFrom, segments, placements};
+ghost use Rattle.rules.specs.Tables.{rowWidth, heldWidth, defaultLimits, edgesFrom, segments, placements};
+ghost use Rattle.rules.specs.Judge.{areasAfter};
 ghost use Rattle.tabled.specs.Image.{imageRows, imageEdges};
 ghost use Rattle.image.specs.Written.{Ready};
 ghost use Rattle.rules.specs.Layout.{layoutRule};
 ghost use Rattle.layout.specs.Laid.{Fit, ImageOf, LaidOut, orderAt, graphChain};
-ghost use Rattle.layout.specs.Lent.{tablesOf, areasOf, defaultLimits, ifAccepted, Owed};
+ghost use Rattle.layout.specs.Lent.{tablesOf, areasOf, Owed};
 use answers::Judged;
 use types::limits::DagLimits;
 
@@ -110,9 +111,9 @@ fn finish(
     requires { ⌜ n ≤ length (now order) ⌝ }
     ensures { λ r. ⌜ r ≡ judged ⌝ }
     ensures { λ _. ⌜ now (w .exit) ≡ replicate (length (now (w .entry))) 0 ⌝ }
-    ensures { λ _. ⌜ now (held .exit) ≡ ifAccepted judged (front (imageRows (now (w .entry)) n) (now (held .entry))) (now (held .entry)) ⌝ }
-    ensures { λ _. ⌜ now (links .exit) ≡ ifAccepted judged (front (imageEdges (now (w .entry)) n e) (now (links .entry))) (now (links .entry)) ⌝ }
-    ensures { λ _. ⌜ now (order .exit) ≡ ifAccepted judged (front (part (now (w .entry)) (orderAt n e) n) (now (order .entry))) (now (order .entry)) ⌝ }
+    ensures { λ _. ⌜ now (held .exit) ≡ areasAfter judged (front (imageRows (now (w .entry)) n) (now (held .entry))) (now (held .entry)) ⌝ }
+    ensures { λ _. ⌜ now (links .exit) ≡ areasAfter judged (front (imageEdges (now (w .entry)) n e) (now (links .entry))) (now (links .entry)) ⌝ }
+    ensures { λ _. ⌜ now (order .exit) ≡ areasAfter judged (front (part (now (w .entry)) (orderAt n e) n) (now (order .entry))) (now (order .entry)) ⌝ }
 {
     let Judged::Accepted = judged else {
         words::clear(w);

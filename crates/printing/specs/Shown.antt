@@ -16,6 +16,7 @@ use Rattle.answers.specs.declared.Eligibility.{Eligibility}
 use Rattle.answers.specs.declared.Eligibility.the-variants as E
 use Rattle.answers.specs.declared.Updated.{Updated}
 use Rattle.answers.specs.declared.Updated.the-variants as U
+use Rattle.answers.specs.Answer.{refusalBy, eligibilityNumber, eligibilityValues}
 use Rattle.answers.specs.Kinds.{kindOf}
 use Rattle.texts.specs.Decimal.{decimal, signed}
 use Rattle.texts.specs.CommaList.{listed, pairsListed}
@@ -80,7 +81,7 @@ shownUpdated (U.Accepted d) rows order added removed splits merges = shownAccept
 
 -- 51: the segment and the list
 unfoldable pub shownUnprovable : ℕ → ℕ → List ℕ → List ℕ
-shownUnprovable id n list = refused (record { number = 51; a = id; b = 0; c = 0; d = 0 }) (listed n list ∷ [])
+shownUnprovable id n list = refused (refusalBy (eligibilityNumber (E.Unprovable id n)) (eligibilityValues (E.Unprovable id n))) (listed n list ∷ [])
 
 unfoldable pub shownBlocked : ℕ → List ℕ → ℕ → List ℕ → List ℕ
 shownBlocked n incomplete m remote = line (code "B") (listed n incomplete ∷ listed m remote ∷ [])

@@ -15,7 +15,7 @@ use Rattle.types.specs.declared.limits.DagLimits.{DagLimits}
 use Rattle.types.specs.declared.records.Name.{Name}
 use Rattle.types.specs.declared.records.Session.{Session}
 use Rattle.types.specs.declared.records.Update.{Update}
-use Rattle.rules.specs.Tables.{heldRows, heldEdges}
+use Rattle.rules.specs.Tables.{defaultLimits, heldRows, heldEdges}
 use Rattle.rules.specs.Shape.{badHead, badPlace, badHeldRow, wrongCounts, badTable, badLayout, badHeldRows, badHeld}
 use Rattle.rules.specs.Room.{noRoomToUpdate}
 use Rattle.rules.specs.Rows.{sizeRule, placesFrom, placementsRule, rangeRule, stateRule, descriptorRule, activeRule, sealedRule, stateLifecycle, lifecycleRule, itemsFrom, listRule, headRule, listsRule, rowRule, edgeCountRule, countedRule, rowsFrom, rowsRule, danglingFrom, danglingRule}
@@ -55,9 +55,6 @@ layoutAt epoch =
       controller = absent;
       secure = absent;
     }
-
-abbrev usual : DagLimits
-usual = record { segments = 4096; edges = 16384; depth = 256; size = 1048576 }
 
 abbrev depthOne : DagLimits
 depthOne = record { segments = 4096; edges = 16384; depth = 1; size = 1048576 }
@@ -117,23 +114,23 @@ refusedFirst epoch limits t answer = first epoch limits t answer untouched
 abbrev cases : List Case
 cases =
     -- one Active 0..65535, epoch 0: accepted
-    first 0 usual (tables (active 1 0 65535 0 0 0) [] [])
+    first 0 defaultLimits (tables (active 1 0 65535 0 0 0) [] [])
     (Accepted (record { epoch = 0; added = 1; removed = 0; splits = 0; merges = 0; reason = Unknown; handover = 65536 }))
     (lists (1 ∷ 88 ∷ 88 ∷ []) (spare 2) (spare 8) (spare 8))
     -- no rows: 33
-    ∷ refusedFirst 0 usual (tables [] [] []) (refused 33 0 0 0)
+    ∷ refusedFirst 0 defaultLimits (tables [] [] []) (refused 33 0 0 0)
     -- 0..65534 alone: 35 (65534, 65535)
-    ∷ refusedFirst 0 usual (tables (active 1 0 65534 0 0 0) [] []) (refused 35 65534 65535 0)
+    ∷ refusedFirst 0 defaultLimits (tables (active 1 0 65534 0 0 0) [] []) (refused 35 65534 65535 0)
     -- ids 1 and 2 both 0..65535: 34 (65535, 0, 2)
-    ∷ refusedFirst 0 usual (tables (active 1 0 65535 0 0 0 ++ active 2 0 65535 0 0 0) [] []) (refused 34 65535 0 2)
+    ∷ refusedFirst 0 defaultLimits (tables (active 1 0 65535 0 0 0 ++ active 2 0 65535 0 0 0) [] []) (refused 34 65535 0 2)
     -- start 65536, end 65535: 10
-    ∷ refusedFirst 0 usual (tables (active 1 65536 65535 0 0 0) [] []) (refused 10 1 65536 0)
+    ∷ refusedFirst 0 defaultLimits (tables (active 1 65536 65535 0 0 0) [] []) (refused 10 1 65536 0)
     -- empty legacy and bad range: 9
-    ∷ refusedFirst 0 usual (tables (1 ∷ 65536 ∷ 65535 ∷ 1 ∷ 0 ∷ 0 ∷ 0 ∷ 1 ∷ 0 ∷ 0 ∷ 0 ∷ []) [] []) (refused 9 1 0 0)
+    ∷ refusedFirst 0 defaultLimits (tables (1 ∷ 65536 ∷ 65535 ∷ 1 ∷ 0 ∷ 0 ∷ 0 ∷ 1 ∷ 0 ∷ 0 ∷ 0 ∷ []) [] []) (refused 9 1 0 0)
     -- two placements of one id, the second with an empty URL: 6
-    ∷ refusedFirst 0 usual (tables (active 1 0 65535 0 0 0) [] (1 ∷ 5 ∷ 0 ∷ 0 ∷ 1 ∷ 0 ∷ 0 ∷ 0 ∷ [])) (refused 6 1 0 0)
+    ∷ refusedFirst 0 defaultLimits (tables (active 1 0 65535 0 0 0) [] (1 ∷ 5 ∷ 0 ∷ 0 ∷ 1 ∷ 0 ∷ 0 ∷ 0 ∷ [])) (refused 6 1 0 0)
     -- two Sealed, created and sealed at 1, layout 1, each the other's parent and child, both 0..65535: 29
-    ∷ refusedFirst 1 usual (tables (sealed 1 0 65535 1 1 1 1 ++ sealed 2 0 65535 1 1 1 1) (2 ∷ 2 ∷ 1 ∷ 1 ∷ []) []) (refused 29 0 0 0)
+    ∷ refusedFirst 1 defaultLimits (tables (sealed 1 0 65535 1 1 1 1 ++ sealed 2 0 65535 1 1 1 1) (2 ∷ 2 ∷ 1 ∷ 1 ∷ []) []) (refused 29 0 0 0)
     -- limit depth 1: chain of two accepted
     ∷ first 1 depthOne (tables (sealed 1 0 65535 0 1 0 1 ++ active 2 0 65535 1 1 0) (2 ∷ 1 ∷ []) [])
     (Accepted (record { epoch = 1; added = 2; removed = 0; splits = 0; merges = 0; reason = Unknown; handover = 65536 }))
@@ -145,7 +142,7 @@ cases =
       before = session true 3 1;
       held = active 1 0 65535 0 0 0 ++ nowhere;
       update = layoutAt 3;
-      limits = usual;
+      limits = defaultLimits;
       lent = tables [] [] [];
       answer = Stale;
       changes = untouched;
@@ -156,7 +153,7 @@ cases =
       before = session true 3 2;
       held = active 2 0 32767 0 0 0 ++ (nowhere ++ (active 9 32768 65535 0 0 0 ++ nowhere));
       update = layoutAt 5;
-      limits = usual;
+      limits = defaultLimits;
       lent = tables (sealed 2 0 32767 0 5 0 1 ++ (sealed 4 32768 65535 0 5 0 1 ++ active 6 0 65535 5 2 0)) (6 ∷ 6 ∷ 2 ∷ 4 ∷ []) [];
       answer = Accepted (record { epoch = 5; added = 2; removed = 1; splits = 1; merges = 0; reason = Split; handover = 65536 });
       changes = lists (4 ∷ 6 ∷ 88 ∷ []) (9 ∷ 88 ∷ []) (2 ∷ 6 ∷ spare 6) (spare 8);

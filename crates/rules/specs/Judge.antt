@@ -36,11 +36,16 @@ pub record Areas : Type 0 where
   pub links : List ℕ
   pub order : List ℕ
 
+-- 2: the work area, of `work` words, or an area that an accepted layout fills is short of its need
+abbrev pub shortToJudge : Tables → ℕ → Areas → Bool
+shortToJudge t work a =
+    noRoomToJudge work (length (a .held)) (length (a .links)) (length (a .order)) (length (t .rows) / rowWidth) (length (t .places) / placeWidth) (length (t .edges))
+
 -- 1, 2, 3 to 35; `work` is the length of the work area
 unfoldable pub judgement : ℕ → ℕ → DagLimits → Tables → ℕ → Areas → Judged
 judgement epoch size limits t work a =
     when (badLayout (t .rows) (t .edges) (t .places)) (refuse0 1) then
-    when (noRoomToJudge work (length (a .held)) (length (a .links)) (length (a .order)) (length (t .rows) / rowWidth) (length (t .places) / placeWidth) (length (t .edges))) (refuse0 2) then
+    when (shortToJudge t work a) (refuse0 2) then
     layoutRule epoch size limits (segmentsIn t) (placementsIn t)
 
 -- what is held once the layout is accepted
@@ -52,16 +57,15 @@ filled limits t a =
       order = front (orderWords (orderOf (limits .depth) (segmentsIn t))) (a .order);
     }
 
--- a refusal leaves the areas as they were
-abbrev pub areasAfter : Judged → Areas → Areas → Areas
+-- a refusal leaves what is lent as it was: one area, or all
+abbrev pub areasAfter : {A : Type 0} → Judged → A → A → A
 areasAfter Accepted new old = new
 areasAfter (Refused r) new old = old
 
 -- the call got past 1 and 2
 unfoldable pub pastRoom : Tables → ℕ → Areas → Bool
 pastRoom t work a =
-    not (badLayout (t .rows) (t .edges) (t .places))
-    && not (noRoomToJudge work (length (a .held)) (length (a .links)) (length (a .order)) (length (t .rows) / rowWidth) (length (t .places) / placeWidth) (length (t .edges)))
+    not (badLayout (t .rows) (t .edges) (t .places)) && not (shortToJudge t work a)
 
 -- 1 and 2 leave the work area as it was; past them it is all zero
 abbrev pub clearedIf : Bool → List ℕ → List ℕ

@@ -1,4 +1,4 @@
--- Document 01, "Order of checks": 3 to 23, and 36 of the descriptor call.
+-- Document 01, "Order of checks": 3 to 23.
 -- Assumes nothing.
 use Prim.Native.Nat.{ℕ, _+_, max}
 use mathlib.Core.Bool.{Bool, true, false, not, _||_, cond}
@@ -10,16 +10,15 @@ use Rattle.lists.specs.Lists.{has}
 use Rattle.lists.specs.Sort.{sorted}
 use Rattle.answers.specs.declared.Judged.{Judged}
 use Rattle.answers.specs.declared.Judged.the-variants.{Accepted, Refused}
-use Rattle.answers.specs.Answer.{when, refuse0, refuse1, refuse2, refuse3, refuse4, _then_}
+use Rattle.answers.specs.Answer.{when, refuse1, refuse2, refuse3, refuse4, byNumber, _then_}
 use Rattle.types.specs.declared.limits.DagLimits.{DagLimits}
 use Rattle.types.specs.declared.range.Made.{Made}
-use Rattle.types.specs.declared.range.Made.the-variants.{Range, StartOutOfBounds, EndOutOfBounds, Reversed}
-use Rattle.types.specs.Range.{rangeOf}
+use Rattle.types.specs.Range.{rangeOf, rangeNumber, rangeValues}
 use Rattle.types.specs.declared.state.SegmentState.{SegmentState}
 use Rattle.types.specs.declared.state.SegmentState.the-variants.{Active, Sealed}
 use Rattle.types.specs.declared.state.StateRead.{StateRead}
 use Rattle.types.specs.declared.state.StateRead.the-variants.{Known, Unknown}
-use Rattle.types.specs.State.{stateOf}
+use Rattle.types.specs.State.{stateOf, stateNumber, stateValues}
 use Rattle.rules.specs.Model.{Head, Segment, Placement, idsOf}
 
 -- ---- 3, 4, 5 (actual, max): the size, n segment rows, p placement rows
@@ -51,17 +50,13 @@ abbrev pub emptyText : Option ℕ → Bool
 emptyText none = false
 emptyText (some text) = eqb text 0
 
--- 10 to 12, by the answer of `KeyRange::new`
+-- 10 to 12, by the answer of `KeyRange::new`: its number, and the id before its values
 unfoldable pub rangeRule : ℕ → Made → Judged
-rangeRule id (Range r) = Accepted
-rangeRule id (StartOutOfBounds start) = refuse2 10 id start
-rangeRule id (EndOutOfBounds end) = refuse2 11 id end
-rangeRule id (Reversed start end) = refuse3 12 id start end
+rangeRule id made = byNumber (rangeNumber made) (id ∷ rangeValues made)
 
--- 13, by the answer of `SegmentState::from_word`
+-- 13, by the answer of `SegmentState::from_word`, likewise
 unfoldable pub stateRule : ℕ → StateRead → Judged
-stateRule id (Known s) = Accepted
-stateRule id (Unknown word) = refuse2 13 id word
+stateRule id read = byNumber (stateNumber read) (id ∷ stateValues read)
 
 unfoldable pub descriptorRule : ℕ → ℕ → ℕ → ℕ → Option ℕ → Judged
 descriptorRule id start end state legacy =

@@ -8,6 +8,7 @@ use mathlib.Core.Option.{Option, none, some}
 use mathlib.Core.List.{List, [], _∷_, _++_}
 use lib.ListN.{length, getD, take, drop}
 use lib.Dec.{eqb}
+use Rattle.types.specs.declared.limits.DagLimits.{DagLimits}
 use Rattle.rules.specs.Model.{Head, Segment, Site, Placement, Held, layout}
 
 -- "Segment row, 11 words", "A held row is the segment row followed by URL flag, URL, TLS flag, TLS", "Placement row, 4 words"
@@ -23,6 +24,10 @@ placeWidth = 4
 -- how many words segment rows and held rows begin with alike
 abbrev pub headWidth : ℕ
 headWidth = 11
+
+-- "Default limits: 4,096 segments, 16,384 edges, depth 256, size 1,048,576"
+abbrev pub defaultLimits : DagLimits
+defaultLimits = record { segments = 4096; edges = 16384; depth = 256; size = 1048576 }
 
 -- ---- from words
 

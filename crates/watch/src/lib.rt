@@ -1,7 +1,8 @@
 // The update of a watch session, `DagWatchSession::handle_update` of dag_watch.rs over lent tables: 40, 41, 42, stale, then 1 to 35. The core takes the
 // session by value and hands it back with the answer; the two `handle` calls update it where it stands.
 ghost use mathlib.Core.Path.{_≡_};
-ghost use Rattle.layout.specs.Lent.{tablesOf, areasOf, defaultLimits};
+ghost use Rattle.rules.specs.Tables.{defaultLimits};
+ghost use Rattle.layout.specs.Lent.{tablesOf, areasOf};
 ghost use Rattle.replacing.specs.Lent.{changesOf};
 ghost use Rattle.watch.specs.Owed.{Owed};
 use answers::Judged;

@@ -43,7 +43,8 @@ use denote.Triple.Spec.{Meets, tripleOf}
 use denote.Triple.Table.{entered, cited}
 use denote.Triple.Walked.{says, Stays, stay-ref, stay-none, stay-none-slice, gave-slice, walkOf, AllGo, goes-none, goes-ref, goes-none-slice, goes-gave-slice, Walks, ends-at, walked, walk-meets}
 use denote.Exit.{yes}
-use Rattle.layout.specs.Lent.{tablesOf as lentTables, areasOf, defaultLimits}
+use Rattle.rules.specs.Tables.{defaultLimits}
+use Rattle.layout.specs.Lent.{tablesOf as lentTables, areasOf}
 use Rattle.replacing.specs.Lent.{changesOf}
 use Rattle.watch.specs.Owed.{Owed}
 use Rattle.types.specs.declared.records.Session.{Session}
