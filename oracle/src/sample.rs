@@ -264,3 +264,37 @@ impl Sample {
         format!("{} cases, {rust} by the Rust, {reading} by the reading; numbers without one: [{}]", rust + reading, missing.join(", "))
     }
 }
+
+#[cfg(test)]
+mod tests {
+    use super::*;
+
+    /// What a part says, as `replay` reads it.
+    fn read(numbers: &[u64]) -> Vec<u64> {
+        let (length, m) = (numbers[0] as usize, numbers[1] as usize);
+        assert_eq!(numbers.len(), m + 3);
+        (0..length).map(|i| if i < m { numbers[2 + i] } else { numbers[2 + m] }).collect()
+    }
+
+    #[test]
+    fn parts_read_back() {
+        for words in [vec![], vec![5], vec![0, 0, 0], vec![1, 2, 3], vec![7, 9, 9], vec![9, 7, 9], vec![0, 9, 0, 0]] {
+            let (mut area, mut table) = (Line::new(1), Line::new(1));
+            area.area(&words);
+            table.table(&words, 9);
+            assert_eq!(read(&area.numbers[1..]), words);
+            assert_eq!(read(&table.numbers[1..]), words);
+            assert!(table.fits && area.numbers.len() <= table.numbers.len());
+        }
+    }
+
+    #[test]
+    fn what_is_too_large_is_not_stored() {
+        let mut l = Line::new(1);
+        l.table(&[0; 10], 9);
+        assert!(l.text().is_none());
+        let mut l = Line::new(1);
+        l.area(&[0; ROOM + 1]);
+        assert!(l.text().is_none());
+    }
+}

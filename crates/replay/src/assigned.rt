@@ -5,6 +5,8 @@ ghost use Prim.Native.Nat.{_<_};
 use crate::areas;
 use crate::areas::Difference;
 use crate::line;
+use crate::line::further;
+use crate::line::half_of;
 use crate::line::number_at;
 use assignment::Turn;
 use types::records::Assigned;
@@ -13,25 +15,14 @@ const ANSWER: usize = 4;
 
 const PARTS: usize = 9;
 
-// A number of 32 bits; 0 for what is none.
-pub fn half_of(word: u64) -> u32 {
-    if word <= 4294967295 {
-        return word as u32;
-    }
-    0
-}
-
 // Record i, of three words.
 fn record_at(line: &[u64], i: usize) -> Assigned {
     let p = line::part_of(line, PARTS, 0);
-    let at = line::further(
-        line::further(line::further(p.from, i as u64), i as u64),
-        i as u64,
-    );
+    let at = further(further(further(p.from, i as u64), i as u64), i as u64);
     Assigned {
         id: number_at(line, at),
-        start: half_of(number_at(line, line::further(at, 1))),
-        end: half_of(number_at(line, line::further(at, 2))),
+        start: half_of(number_at(line, further(at, 1))),
+        end: half_of(number_at(line, further(at, 2))),
     }
 }
 

@@ -21,6 +21,14 @@ pub fn number_at(line: &[u64], at: usize) -> u64 {
     0
 }
 
+// A number of 32 bits; 0 for what is none.
+pub fn half_of(word: u64) -> u32 {
+    if word <= 4294967295 {
+        return word as u32;
+    }
+    0
+}
+
 // A place that many numbers further, which stays in 64 bits.
 pub fn further(at: usize, more: u64) -> usize {
     if more <= (usize::MAX - at) as u64 {

@@ -4,10 +4,10 @@
 // after it.
 use crate::areas;
 use crate::areas::Difference;
-use crate::assigned::half_of;
 use crate::judged::limits_at;
 use crate::line;
 use crate::line::further;
+use crate::line::half_of;
 use crate::line::number_at;
 use crate::names;
 use answers::Updated;
