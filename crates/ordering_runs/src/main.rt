@@ -64,21 +64,54 @@ fn ask(
     );
 }
 
-// Document 01's worked example.
-fn worked_example(rows: &[u64], edges: &[u64], one: &[u64]) {
-    let none = &one[..0];
-    ask(rows, edges, 3, 4, OrderingMode::Strict, 3, one, none);
-    ask(rows, edges, 3, 4, OrderingMode::Strict, 3, one, one);
+fn strict(
+    rows: &[u64],
+    edges: &[u64],
+    h: usize,
+    g: usize,
+    id: u64,
+    history: &[u64],
+    completed: &[u64],
+) {
     ask(
         rows,
         edges,
-        3,
-        4,
-        OrderingMode::BrokerManaged,
-        3,
-        none,
-        none,
+        h,
+        g,
+        OrderingMode::Strict,
+        id,
+        history,
+        completed,
     );
+}
+
+fn managed(
+    rows: &[u64],
+    edges: &[u64],
+    h: usize,
+    g: usize,
+    id: u64,
+    history: &[u64],
+    completed: &[u64],
+) {
+    ask(
+        rows,
+        edges,
+        h,
+        g,
+        OrderingMode::BrokerManaged,
+        id,
+        history,
+        completed,
+    );
+}
+
+// Document 01's worked example.
+fn worked_example(rows: &[u64], edges: &[u64], one: &[u64]) {
+    let none = &one[..0];
+    strict(rows, edges, 3, 4, 3, one, none);
+    strict(rows, edges, 3, 4, 3, one, one);
+    managed(rows, edges, 3, 4, 3, none, none);
 }
 
 // The merged segment as its ancestors complete in that order, from none to all.
@@ -86,26 +119,20 @@ fn completing(rows: &[u64], edges: &[u64], done: &[u64]) {
     let history = [1, 2, 3u64];
     let mut k = 0;
     while k < done.len() {
-        ask(
-            rows,
-            edges,
-            4,
-            8,
-            OrderingMode::Strict,
-            4,
-            &history,
-            &done[..k],
-        );
+        strict(rows, edges, 4, 8, 4, &history, &done[..k]);
         k += 1;
     }
-    ask(rows, edges, 4, 8, OrderingMode::Strict, 4, &history, done);
+    strict(rows, edges, 4, 8, 4, &history, done);
 }
 
-// Every order of completion.
-fn every_order(rows: &[u64], edges: &[u64]) {
+// Every order of completion, three and three.
+fn first_orders(rows: &[u64], edges: &[u64]) {
     completing(rows, edges, &[1, 2, 3u64]);
     completing(rows, edges, &[1, 3, 2u64]);
     completing(rows, edges, &[2, 1, 3u64]);
+}
+
+fn last_orders(rows: &[u64], edges: &[u64]) {
     completing(rows, edges, &[2, 3, 1u64]);
     completing(rows, edges, &[3, 1, 2u64]);
     completing(rows, edges, &[3, 2, 1u64]);
@@ -114,87 +141,42 @@ fn every_order(rows: &[u64], edges: &[u64]) {
 // Which of the ancestors may itself be read before any is complete.
 fn at_the_start(rows: &[u64], edges: &[u64], history: &[u64]) {
     let none = &history[..0];
-    ask(rows, edges, 4, 8, OrderingMode::Strict, 1, history, none);
-    ask(rows, edges, 4, 8, OrderingMode::Strict, 2, history, none);
-    ask(rows, edges, 4, 8, OrderingMode::Strict, 3, history, none);
+    strict(rows, edges, 4, 8, 1, history, none);
+    strict(rows, edges, 4, 8, 2, history, none);
+    strict(rows, edges, 4, 8, 3, history, none);
 }
 
 // The broker answers for what was never owned here; what was owned must be complete.
 fn partly_owned(rows: &[u64], edges: &[u64], history: &[u64], one: &[u64]) {
     let none = &history[..0];
-    ask(
-        rows,
-        edges,
-        4,
-        8,
-        OrderingMode::BrokerManaged,
-        4,
-        history,
-        none,
-    );
-    ask(
-        rows,
-        edges,
-        4,
-        8,
-        OrderingMode::BrokerManaged,
-        4,
-        history,
-        one,
-    );
-    ask(
-        rows,
-        edges,
-        4,
-        8,
-        OrderingMode::BrokerManaged,
-        4,
-        history,
-        history,
-    );
-    ask(rows, edges, 4, 8, OrderingMode::Strict, 4, history, none);
+    managed(rows, edges, 4, 8, 4, history, none);
+    managed(rows, edges, 4, 8, 4, history, one);
+    managed(rows, edges, 4, 8, 4, history, history);
+    strict(rows, edges, 4, 8, 4, history, none);
 }
 
 // 50, and 51 for ancestors that were never owned here.
 fn refused(rows: &[u64], edges: &[u64]) {
     let none = &edges[..0];
-    ask(rows, edges, 3, 4, OrderingMode::Strict, 9, none, none);
-    ask(
-        rows,
-        edges,
-        3,
-        4,
-        OrderingMode::BrokerManaged,
-        9,
-        none,
-        none,
-    );
-    ask(rows, edges, 3, 4, OrderingMode::Strict, 3, none, none);
+    strict(rows, edges, 3, 4, 9, none, none);
+    managed(rows, edges, 3, 4, 9, none, none);
+    strict(rows, edges, 3, 4, 3, none, none);
 }
 
 // 51 in both modes, owned and complete or not.
 fn pruned(rows: &[u64], edges: &[u64], one: &[u64]) {
     let none = &one[..0];
-    ask(rows, edges, 1, 0, OrderingMode::Strict, 1, none, none);
-    ask(rows, edges, 1, 0, OrderingMode::Strict, 1, one, one);
-    ask(
-        rows,
-        edges,
-        1,
-        0,
-        OrderingMode::BrokerManaged,
-        1,
-        none,
-        none,
-    );
+    strict(rows, edges, 1, 0, 1, none, none);
+    strict(rows, edges, 1, 0, 1, one, one);
+    managed(rows, edges, 1, 0, 1, none, none);
 }
 
 // 1: a row more than the area has, an edge word more, an edge word less.
 fn bad_counts(rows: &[u64], edges: &[u64]) {
     let none = &edges[..0];
-    ask(rows, edges, 5, 4, OrderingMode::Strict, 3, none, none);
-    ask(rows, edges, 3, 17, OrderingMode::Strict, 3, none, none);
-    ask(rows, edges, 3, 3, OrderingMode::Strict, 3, none, none);
+    strict(rows, edges, 5, 4, 3, none, none);
+    strict(rows, edges, 3, 17, 3, none, none);
+    strict(rows, edges, 3, 3, 3, none, none);
 }
 
 // One query of the worked example with lists of these lengths.
@@ -226,22 +208,14 @@ fn short_lists(rows: &[u64], edges: &[u64], one: &[u64]) {
 // A segment that names itself as its parent, twice: it is its own ancestor once, and two references are read.
 fn own_ancestor(rows: &[u64], edges: &[u64]) {
     let none = &edges[..0];
-    ask(rows, edges, 1, 2, OrderingMode::Strict, 1, none, none);
-    ask(rows, edges, 1, 2, OrderingMode::Strict, 1, edges, none);
-    ask(rows, edges, 1, 2, OrderingMode::Strict, 1, edges, edges);
-    ask(
-        rows,
-        edges,
-        1,
-        2,
-        OrderingMode::BrokerManaged,
-        1,
-        none,
-        none,
-    );
+    strict(rows, edges, 1, 2, 1, none, none);
+    strict(rows, edges, 1, 2, 1, edges, none);
+    strict(rows, edges, 1, 2, 1, edges, edges);
+    managed(rows, edges, 1, 2, 1, none, none);
 }
 
 fn run_own() {
+    print::line(b"its own parent, twice");
     let rows = [1, 0, 65535, 1, 0, 0, 0, 0, 0, 2, 0, 0, 0, 0, 0u64];
     let edges = [1, 1u64];
     own_ancestor(&rows, &edges);
@@ -250,110 +224,42 @@ fn run_own() {
 // A parent without a row is an ancestor like any other.
 fn lost_parent(rows: &[u64], edges: &[u64]) {
     let none = &edges[..0];
-    ask(rows, edges, 1, 1, OrderingMode::Strict, 1, none, none);
-    ask(rows, edges, 1, 1, OrderingMode::Strict, 1, edges, none);
-    ask(rows, edges, 1, 1, OrderingMode::Strict, 1, edges, edges);
-    ask(
-        rows,
-        edges,
-        1,
-        1,
-        OrderingMode::BrokerManaged,
-        1,
-        none,
-        none,
-    );
+    strict(rows, edges, 1, 1, 1, none, none);
+    strict(rows, edges, 1, 1, 1, edges, none);
+    strict(rows, edges, 1, 1, 1, edges, edges);
+    managed(rows, edges, 1, 1, 1, none, none);
 }
 
 fn run_lost() {
+    print::line(b"a parent without a row");
     let rows = [1, 0, 65535, 1, 3, 0, 0, 0, 0, 1, 0, 0, 0, 0, 0u64];
     let edges = [7u64];
     lost_parent(&rows, &edges);
 }
 
 // Ancestors with a row and without one come in one ascending list; 5 and 9 are each other's parents, so each is its own ancestor.
-fn mixed_parents(rows: &[u64], edges: &[u64], all: &[u64], some: &[u64]) {
+fn mixed_strict(rows: &[u64], edges: &[u64], all: &[u64], some: &[u64]) {
     let none = &edges[..0];
-    ask(rows, edges, 3, 7, OrderingMode::Strict, 9, none, none);
-    ask(rows, edges, 3, 7, OrderingMode::Strict, 9, all, none);
-    ask(rows, edges, 3, 7, OrderingMode::Strict, 5, all, some);
-    ask(
-        rows,
-        edges,
-        3,
-        7,
-        OrderingMode::BrokerManaged,
-        9,
-        some,
-        none,
-    );
-    ask(
-        rows,
-        edges,
-        3,
-        7,
-        OrderingMode::BrokerManaged,
-        9,
-        some,
-        some,
-    );
-    ask(rows, edges, 3, 7, OrderingMode::Strict, 2, none, none);
+    strict(rows, edges, 3, 7, 9, none, none);
+    strict(rows, edges, 3, 7, 9, all, none);
+    strict(rows, edges, 3, 7, 5, all, some);
 }
 
-const MIXED: [u64; 45] = [
-    2,
-    0,
-    65535,
-    1,
-    0,
-    0,
-    0,
-    0,
-    0,
-    0,
-    0,
-    0,
-    0,
-    0,
-    0,
-    5,
-    0,
-    65535,
-    1,
-    0,
-    0,
-    0,
-    0,
-    0,
-    3,
-    0,
-    0,
-    0,
-    0,
-    0,
-    9,
-    0,
-    65535,
-    1,
-    0,
-    0,
-    0,
-    0,
-    0,
-    4,
-    0,
-    0,
-    0,
-    0,
-    0,
-];
+fn mixed_managed(rows: &[u64], edges: &[u64], some: &[u64]) {
+    let none = &edges[..0];
+    managed(rows, edges, 3, 7, 9, some, none);
+    managed(rows, edges, 3, 7, 9, some, some);
+    strict(rows, edges, 3, 7, 2, none, none);
+}
 
 fn run_mixed() {
-    let rows = MIXED;
+    print::line(b"parents with a row and without one");
+    let rows = tables::MIXED;
     let edges = [9, 4, 2, 7, 5, 3, 7u64];
     let all = [2, 3, 4, 5, 7, 9u64];
     let some = [9, 3u64];
-    mixed_parents(&rows, &edges, &all, &some);
+    mixed_strict(&rows, &edges, &all, &some);
+    mixed_managed(&rows, &edges, &some);
 }
 
 // What the worked example says of one segment's edges.
@@ -398,34 +304,35 @@ fn split_cases(held: &[u64], links: &[u64], one: &[u64]) {
 }
 
 fn run_split() {
-    let mut held = [0u64; 60];
-    let mut links = [0u64; 16];
     let one = [1u64];
     print::line(b"a split, epoch 3");
-    tables::judge_split(&mut held, &mut links);
+    let layout = tables::judge_split();
+    let held = layout.rows;
+    let links = layout.edges;
     split_cases(&held, &links, &one);
 }
 
 fn merge_cases(held: &[u64], links: &[u64]) {
     at_the_start(held, links, &[1, 2, 3u64]);
-    every_order(held, links);
+    first_orders(held, links);
+    last_orders(held, links);
     print::line(b"segment 1 was never owned here");
     partly_owned(held, links, &[3, 2, 3u64], &[3u64]);
 }
 
 fn run_merge() {
-    let mut held = [0u64; 60];
-    let mut links = [0u64; 16];
     print::line(b"a split and a merge, epoch 2");
-    tables::judge_merge(&mut held, &mut links);
+    let layout = tables::judge_merge();
+    let held = layout.rows;
+    let links = layout.edges;
     merge_cases(&held, &links);
 }
 
 fn run_pruned() {
-    let mut held = [0u64; 60];
-    let mut links = [0u64; 16];
     print::line(b"a root created at 1");
-    tables::judge_pruned(&mut held, &mut links);
+    let layout = tables::judge_pruned();
+    let held = layout.rows;
+    let links = layout.edges;
     let one = [1u64];
     pruned(&held, &links, &one);
 }
@@ -434,10 +341,7 @@ fn main() {
     run_split();
     run_merge();
     run_pruned();
-    print::line(b"its own parent, twice");
     run_own();
-    print::line(b"a parent without a row");
     run_lost();
-    print::line(b"parents with a row and without one");
     run_mixed();
 }

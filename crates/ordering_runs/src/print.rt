@@ -3,49 +3,15 @@ use answers::Eligibility;
 use answers::Judged;
 use answers::Ordering;
 use answers::Refusal;
-use libc::STDOUT_FILENO;
+use shown::ids;
+use shown::text;
+use shown::word;
 use types::records::OrderingMode;
-
-fn text(bytes: &[u8]) {
-    io::write_all(STDOUT_FILENO, bytes);
-}
 
 pub fn line(bytes: &[u8]) {
     text(b"# ");
     text(bytes);
     text(b"\n");
-}
-
-fn number(n: u64) {
-    io::print_decimal(STDOUT_FILENO, n);
-}
-
-// A space and the number.
-fn word(n: u64) {
-    text(b" ");
-    number(n);
-}
-
-// An id of a list and what stands before it.
-fn item(i: usize, id: u64) {
-    if i == 0 {
-        text(b" ");
-    } else {
-        text(b",");
-    }
-    number(id);
-}
-
-// A space and the ids with commas, or `-` where there are none.
-fn ids(list: &[u64]) {
-    if list.len() == 0 {
-        text(b" -");
-    }
-    let mut i = 0;
-    while i < list.len() {
-        item(i, list[i]);
-        i += 1;
-    }
 }
 
 // The first k words of a list.
@@ -57,62 +23,68 @@ fn first_ids(list: &[u64], k: usize) {
     ids(&list[..k]);
 }
 
-// The value, if the refusal carries one at this place.
-fn value(carried: u64, place: u64, v: u64) {
-    if place < carried {
-        word(v);
-    }
-}
-
 fn refusal(r: Refusal) {
-    let kind = answers::kinds::kind_of(r.number);
     text(b" R");
-    word(r.number);
-    value(kind.values, 0, r.a);
-    value(kind.values, 1, r.b);
-    value(kind.values, 2, r.c);
-    value(kind.values, 3, r.d);
+    shown::refusal(r);
 }
 
-pub fn query(mode: OrderingMode, id: u64, history: &[u64], completed: &[u64]) {
-    text(b"O");
-    word(id);
-    match mode {
+fn mode(m: OrderingMode) {
+    match m {
         OrderingMode::Strict => text(b" S"),
         OrderingMode::BrokerManaged => text(b" B"),
     }
+}
+
+pub fn query(m: OrderingMode, id: u64, history: &[u64], completed: &[u64]) {
+    text(b"O");
+    word(id);
+    mode(m);
     ids(history);
     ids(completed);
     text(b":");
 }
 
-pub fn answer(o: Ordering, first: &[u64], second: &[u64]) {
-    let eligibility = o.eligibility;
-    match eligibility {
+fn unprovable(id: u64, first: &[u64], n: usize) {
+    text(b" R 51");
+    word(id);
+    first_ids(first, n);
+}
+
+fn blocked(first: &[u64], n: usize, second: &[u64], m: usize) {
+    text(b" B");
+    first_ids(first, n);
+    first_ids(second, m);
+}
+
+fn managed(second: &[u64], m: usize) {
+    text(b" M");
+    first_ids(second, m);
+}
+
+fn eligibility(e: Eligibility, first: &[u64], second: &[u64]) {
+    match e {
         Eligibility::Refused(r) => refusal(r),
-        Eligibility::Unprovable(id, n) => {
-            text(b" R 51");
-            word(id);
-            first_ids(first, n);
-        }
-        Eligibility::Blocked(n, m) => {
-            text(b" B");
-            first_ids(first, n);
-            first_ids(second, m);
-        }
+        Eligibility::Unprovable(id, n) => unprovable(id, first, n),
+        Eligibility::Blocked(n, m) => blocked(first, n, second, m),
         Eligibility::Eligible => text(b" E"),
-        Eligibility::BrokerManaged(m) => {
-            text(b" M");
-            first_ids(second, m);
-        }
+        Eligibility::BrokerManaged(m) => managed(second, m),
     }
-    text(b", read");
-    word(o.read);
-    if ordering::permits_flow(eligibility) {
+}
+
+fn permitted(e: Eligibility) {
+    if ordering::permits_flow(e) {
         text(b", permitted\n");
     } else {
         text(b", not permitted\n");
     }
+}
+
+pub fn answer(o: Ordering, first: &[u64], second: &[u64]) {
+    let e = o.eligibility;
+    eligibility(e, first, second);
+    text(b", read");
+    word(o.read);
+    permitted(e);
 }
 
 pub fn judged(label: &[u8], id: u64, j: Judged) {

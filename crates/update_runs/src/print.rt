@@ -1,76 +1,16 @@
-// Answers, sessions and areas as text. Words that no call has written show as `_`.
-ghost use Prim.Native.Nat.{_+_, _≤_, _<_};
+// Answers and sessions as text.
 use answers::DagChangeReason;
 use answers::DagDelta;
 use answers::Refusal;
 use answers::Updated;
-use libc::STDOUT_FILENO;
+use shown::text;
+use shown::word;
 use types::records::Name;
 use types::records::Session;
 
-// A word that no table here has.
-pub const SPARE: u64 = 1000000;
-
-pub fn text(bytes: &[u8]) {
-    io::write_all(STDOUT_FILENO, bytes);
-}
-
-fn number(n: u64) {
-    io::print_decimal(STDOUT_FILENO, n);
-}
-
-// A space and the number.
-fn word(n: u64) {
-    text(b" ");
-    number(n);
-}
-
-// A word of an area and what stands before it.
-fn item(i: usize, id: u64) {
-    if i == 0 {
-        text(b" ");
-    } else {
-        text(b",");
-    }
-    if id == SPARE {
-        text(b"_");
-    } else {
-        number(id);
-    }
-}
-
-// A space and the words with commas, or `-` where there are none.
-fn ids(list: &[u64]) {
-    if list.len() == 0 {
-        text(b" -");
-    }
-    let mut i = 0;
-    while i < list.len() {
-        item(i, list[i]);
-        i += 1;
-    }
-}
-
-pub fn area(label: &[u8], list: &[u64]) {
-    text(label);
-    ids(list);
-}
-
-// The value, if the refusal carries one at this place.
-fn value(carried: u64, place: u64, v: u64) {
-    if place < carried {
-        word(v);
-    }
-}
-
 fn refusal(r: Refusal) {
-    let kind = answers::kinds::kind_of(r.number);
     text(b" R");
-    word(r.number);
-    value(kind.values, 0, r.a);
-    value(kind.values, 1, r.b);
-    value(kind.values, 2, r.c);
-    value(kind.values, 3, r.d);
+    shown::refusal(r);
 }
 
 fn reason(r: DagChangeReason) {
@@ -111,51 +51,37 @@ fn name(n: Name) {
     }
 }
 
+fn holds(epoch: u64, rows: usize, edges: usize) {
+    text(b" holds epoch");
+    word(epoch);
+    text(b", rows");
+    word(rows as u64);
+    text(b", edges");
+    word(edges as u64);
+}
+
+fn names(resolved: Name, controller: Name, secure: Name) {
+    text(b"; names");
+    name(resolved);
+    name(controller);
+    name(secure);
+}
+
 pub fn session(s: Session) {
     text(b"\n  session");
     word(s.id);
     if s.held {
-        text(b" holds epoch");
-        word(s.epoch);
-        text(b", rows");
-        word(s.rows as u64);
-        text(b", edges");
-        word(s.edges as u64);
+        holds(s.epoch, s.rows, s.edges);
     } else {
         text(b" holds none");
     }
-    text(b"; names");
-    name(s.resolved);
-    name(s.controller);
-    name(s.secure);
-}
-
-// One more, if the word is another than this one.
-fn counted(n: u64, word: u64, than: u64) -> u64
-    requires { ⌜ n < 18446744073709551615 ⌝ }
-    ensures { λ r. ⌜ r ≤ n + 1 ⌝ }
-{
-    if word != than {
-        return n + 1;
-    }
-    n
-}
-
-// How many words are another than this one.
-fn others(a: &[u64], than: u64) -> u64 {
-    let mut i = 0;
-    let mut n = 0u64;
-    while i < a.len() {
-        n = counted(n, a[i], than);
-        i += 1;
-    }
-    n
+    names(s.resolved, s.controller, s.secure);
 }
 
 pub fn work(area: &[u64]) {
     text(b"\n  work: changed");
-    word(others(area, SPARE));
+    word(shown::others(area, shown::SPARE));
     text(b", not zero");
-    word(others(area, 0));
+    word(shown::others(area, 0));
     text(b"\n");
 }

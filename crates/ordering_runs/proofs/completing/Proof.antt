@@ -16,14 +16,14 @@ abbrev μ-loop : tie.MeasureT-loop
 loop-holds : tie.Need-loop-holds Inv-loop μ-loop
 loop-holds c = search needs
 
-slice-aggregate-ask : tie.Need-slice-aggregate-ask Inv-loop μ-loop
-slice-aggregate-ask c = search needs
+slice-aggregate-strict : tie.Need-slice-aggregate-strict Inv-loop μ-loop
+slice-aggregate-strict c = search needs
 
-slice-aggregate-ask-2 : tie.Need-slice-aggregate-ask-2 Inv-loop μ-loop
-slice-aggregate-ask-2 c = simp length-take (omega arith)
+slice-aggregate-strict-2 : tie.Need-slice-aggregate-strict-2 Inv-loop μ-loop
+slice-aggregate-strict-2 c = simp length-take (omega arith)
 
-ask-requires : tie.Need-ask-requires Inv-loop μ-loop
-ask-requires c κs = search needs
+strict-requires : tie.Need-strict-requires Inv-loop μ-loop
+strict-requires c κs = search needs
 
 add-k : tie.Need-add-k Inv-loop μ-loop
 add-k c = search needs
@@ -34,11 +34,11 @@ loop-less c = search needs
 loop-again : tie.Need-loop-again Inv-loop μ-loop
 loop-again c = search needs
 
-slice-aggregate-ask-3 : tie.Need-slice-aggregate-ask-3 Inv-loop μ-loop
-slice-aggregate-ask-3 c = search needs
+slice-aggregate-strict-3 : tie.Need-slice-aggregate-strict-3 Inv-loop μ-loop
+slice-aggregate-strict-3 c = search needs
 
-ask-requires-2 : tie.Need-ask-requires-2 Inv-loop μ-loop
-ask-requires-2 c κs = search needs
+strict-requires-2 : tie.Need-strict-requires-2 Inv-loop μ-loop
+strict-requires-2 c κs = search needs
 
 returns : tie.Need-returns Inv-loop μ-loop
 returns c = search needs
@@ -50,12 +50,12 @@ completing-spec =
     Inv-loop
     μ-loop
     loop-holds
-    slice-aggregate-ask
-    slice-aggregate-ask-2
-    ask-requires
+    slice-aggregate-strict
+    slice-aggregate-strict-2
+    strict-requires
     add-k
     loop-less
     loop-again
-    slice-aggregate-ask-3
-    ask-requires-2
+    slice-aggregate-strict-3
+    strict-requires-2
     returns)

@@ -3,8 +3,8 @@
 use lib.ListN.{length}
 use Prim.Native.Nat.{_-_, _≤_}
 use borrow.Author.Needs.{needs}
-use Rattle.update_runs.proofs.print.others.Statement.{statement}
-use Rattle.update_runs.proofs.print.others.Tie as tie
+use Rattle.shown.proofs.others.Statement.{statement}
+use Rattle.shown.proofs.others.Tie as tie
 
 abbrev Inv-loop : tie.InvT-loop
 Inv-loop a than i₀ n₀ i n = (i ≤ length a) × (n ≤ i)

@@ -1,10 +1,10 @@
--- Shown: `print::ids` is safe and ends. The measure is the number of ids that are left.
+-- Shown: `ids` is safe and ends. The measure is the number of ids that are left.
 -- Assumes nothing.
 use Prim.Native.Nat.{_-_, _≤_}
 use lib.ListN.{length}
 use borrow.Author.Needs.{needs}
-use Rattle.update_runs.proofs.print.ids.Statement.{statement}
-use Rattle.update_runs.proofs.print.ids.Tie as tie
+use Rattle.shown.proofs.ids.Statement.{statement}
+use Rattle.shown.proofs.ids.Tie as tie
 
 abbrev Inv-loop : tie.InvT-loop
 Inv-loop list i₀ i = i ≤ length list
