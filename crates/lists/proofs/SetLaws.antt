@@ -3,7 +3,7 @@
 -- Assumes nothing.
 use mathlib.Core.Path.{_≡_, refl, sym, ap, _∙_}
 use mathlib.Core.Bool.{Bool, true, false, cond, _&&_, _||_}
-use mathlib.Core.Logic.{_⊎_, inl, inr}
+use mathlib.Core.Logic.{_⊎_, inl, inr, ⊎-elim}
 use mathlib.Core.List.{List, [], _∷_, _++_, map}
 use Prim.Native.Nat.{ℕ, zero, suc, _+_, _<_, _≤_, zero-le}
 use native.Mathlib.Decide.{ℕ-discrete}
@@ -82,6 +82,11 @@ in-left z a b h = has-append z a b ∙ or-left _ _ h
 
 pub in-right : (z : ℕ) (a b : List ℕ) → z ∈ b → z ∈ (a ++ b)
 in-right z a b h = has-append z a b ∙ or-right (has z a) _ h
+
+pub in-take : (x q : ℕ) (l : List ℕ) → x ∈ take q l → x ∈ l
+in-take x zero l h = never h
+in-take x (suc q) [] h = never h
+in-take x (suc q) (y ∷ l) h = ⊎-elim (λ (e : x ≡ y). rw e (here y l)) (λ (k : x ∈ take q l). there x y l (in-take x q l k)) (in-cons x y (take q l) h)
 
 -- what is sorted has the same keys
 module _ {A : Type 0} (le : A → A → Bool) (key : A → ℕ) (z : ℕ) where

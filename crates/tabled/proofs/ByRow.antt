@@ -19,11 +19,9 @@ use Rattle.words.specs.declared.Found.{Found}
 use Rattle.words.specs.declared.Found.the-variants.{At, Nothing}
 use Rattle.rules.specs.Model.{Segment, idsOf, lookup}
 use Rattle.rules.specs.Tables.{heldWidth, parentsAt, childrenAt, startOf, segmentAt, segmentsFrom, heldSegments}
+use Rattle.rules.proofs.Places.{start-next}
 use Rattle.rules.proofs.TableIds.{ids-next}
 use Rattle.tabled.specs.Image.{segmentIn, segmentFound}
-
-start-next : (rows : List ℕ) (i : ℕ) → startOf heldWidth rows (i + 1) ≡ startOf heldWidth rows i + parentsAt rows (i * heldWidth) + childrenAt rows (i * heldWidth)
-start-next rows i = rw add-one
 
 pub segments-length : (rows edges : List ℕ) (n i at : ℕ) → length (segmentsFrom heldWidth rows edges n i at) ≡ n
 segments-length rows edges zero i at = refl
@@ -36,7 +34,7 @@ module _ (rows edges : List ℕ) where
   from-at d (suc n) i zero h = rw add-zero
   from-at d (suc n) i (suc k) h =
       let e : i + 1 + k ≡ i + suc k = omega arith in
-      rw (← start-next rows i) (from-at d n (i + 1) k (le-of-suc-le-suc h) ∙ ap (segmentIn rows edges) e)
+      rw (← start-next heldWidth rows i) (from-at d n (i + 1) k (le-of-suc-le-suc h) ∙ ap (segmentIn rows edges) e)
 
   pub segments-at : (d : Segment) (n k : ℕ) → k < n → getD (heldSegments rows edges n) k d ≡ segmentIn rows edges k
   segments-at d n k h = from-at d n 0 k h ∙ ap (segmentIn rows edges) (zero-add k)
@@ -47,7 +45,7 @@ module _ (rows edges : List ℕ) where
       let one : i + 1 ≡ suc i = add-one i in
       let rest : lookup id (segmentsFrom heldWidth rows edges n (i + 1) (startOf heldWidth rows (i + 1))) ≡ segmentFound rows edges (whereFrom (i + 1) (ids (drop ((i + 1) * heldWidth) rows) heldWidth n) id) = found-from id n (i + 1) in
       let turned : lookup id (segmentsFrom heldWidth rows edges n (i + 1) (startOf heldWidth rows i + parentsAt rows (i * heldWidth) + childrenAt rows (i * heldWidth))) ≡ segmentFound rows edges (whereFrom (suc i) (ids (drop ((i + 1) * heldWidth) rows) heldWidth n) id) =
-      ap (λ (a : ℕ). lookup id (segmentsFrom heldWidth rows edges n (i + 1) a)) (sym (start-next rows i)) ∙ rest ∙ ap (λ (k : ℕ). segmentFound rows edges (whereFrom k (ids (drop ((i + 1) * heldWidth) rows) heldWidth n) id)) one in
+      ap (λ (a : ℕ). lookup id (segmentsFrom heldWidth rows edges n (i + 1) a)) (sym (start-next heldWidth rows i)) ∙ rest ∙ ap (λ (k : ℕ). segmentFound rows edges (whereFrom k (ids (drop ((i + 1) * heldWidth) rows) heldWidth n) id)) one in
       by (eqb (getD rows (i * heldWidth) 0) id) _ (whereFrom (suc i) (ids (drop ((i + 1) * heldWidth) rows) heldWidth n) id) turned
       ∙ ap (λ (l : List ℕ). segmentFound rows edges (whereFrom i l id)) (ids-next rows heldWidth n i)
     where
