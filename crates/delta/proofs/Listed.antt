@@ -2,13 +2,12 @@
 --     has-found      `has` and the search agree
 --     listed-start, listed-next, listed-end     the loop that lists them
 -- Assumes nothing.
-use Prim.Native.Nat.{ℕ, suc, _+_, _*_, _≤_, _<_}
+use Prim.Native.Nat.{ℕ, _+_, _*_, _≤_, _<_}
 use native.Mathlib.Numerals.{add-one}
 use native.Mathlib.Omega.{arith}
 use mathlib.Core.Path.{_≡_, refl, sym, ap, _∙_}
-use mathlib.Core.Bool.{Bool, true, false, not, cond, _||_}
+use mathlib.Core.Bool.{Bool, true, false, not, cond}
 use mathlib.Core.List.{List, [], _∷_, _++_, append-assoc}
-use lib.Dec.{eqb}
 use lib.ListN.{length, getD, take, drop, set, length-append}
 use lib.Seq.{take-suc, take-all, drop-drop, drop-at, take-at, set-split}
 use Rattle.lists.specs.Lists.{has, front}
@@ -17,31 +16,19 @@ use Rattle.lists.proofs.SetLaws.{keep-shorter}
 use Rattle.words.specs.Part.{put}
 use Rattle.words.proofs.PartLaws.{put-none}
 use Rattle.rules.specs.Tables.{heldWidth}
-use Rattle.words.specs.Table.{ids, whereFrom, whereIs}
+use Rattle.words.specs.Table.{whereIs}
 use Rattle.words.specs.declared.Found.{Found}
 use Rattle.words.specs.declared.Found.the-variants.{At, Nothing}
-use Rattle.words.proofs.TableLaws.{length-ids, ids-at}
+use Rattle.words.proofs.TableLaws.{length-ids, ids-at, hit, has-hit}
 use Rattle.delta.specs.Tables.{lacking, idsIn}
 
 -- ---- the search
 
-abbrev isAt : Found → Bool
-isAt (At r) = true
-isAt Nothing = false
-
-has-from : (k : ℕ) (l : List ℕ) (x : ℕ) → has x l ≡ isAt (whereFrom k l x)
-has-from k [] x = refl
-has-from k (y ∷ l) x = go (has-from (suc k) l x) (eqb y x)
-  where
-    go : has x l ≡ isAt (whereFrom (suc k) l x) → (t : Bool) → (t || has x l) ≡ isAt (cond t (At k) (whereFrom (suc k) l x))
-    go ih true = refl
-    go ih false = ih
-
 pub found-has : (l : List ℕ) (x r : ℕ) (f : Found) → f ≡ whereIs l x → f ≡ At r → (b : Bool) → b ≡ true → b ≡ has x l
-found-has l x r f e g b h = h ∙ sym (has-from 0 l x ∙ ap isAt (sym e ∙ g))
+found-has l x r f e g b h = h ∙ sym (has-hit l x ∙ ap hit (sym e ∙ g))
 
 pub missing-has : (l : List ℕ) (x : ℕ) (f : Found) → f ≡ whereIs l x → f ≡ Nothing → (b : Bool) → b ≡ false → b ≡ has x l
-missing-has l x f e g b h = h ∙ sym (has-from 0 l x ∙ ap isAt (sym e ∙ g))
+missing-has l x f e g b h = h ∙ sym (has-hit l x ∙ ap hit (sym e ∙ g))
 
 -- ---- what is kept of two lists
 

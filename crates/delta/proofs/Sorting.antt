@@ -3,7 +3,7 @@
 --     copied-start, copied-next, copied-end     the loop that writes the pairs out
 --     written-count, written-is, written-kept     placed, sorted, written out
 -- Assumes nothing.
-use Prim.Native.Nat.{ℕ, zero, suc, _+_, _-_, _*_, _≤_, _<_}
+use Prim.Native.Nat.{ℕ, _+_, _-_, _*_, _≤_, _<_}
 use native.Mathlib.Numerals.{add-one}
 use native.Mathlib.Omega.{arith}
 use mathlib.Core.Path.{_≡_, refl, sym, ap, _∙_}
@@ -20,7 +20,7 @@ use Rattle.words.specs.Part.{part, put}
 use Rattle.words.proofs.PartLaws.{Loan, loan, grow, part-as}
 use Rattle.sorts.specs.Rows.{rows}
 use Rattle.sorts.specs.Heap.{row0}
-use Rattle.sorts.proofs.RowLaws.{rows-at, rows-length}
+use Rattle.sorts.proofs.RowLaws.{rows-at, rows-length, rows-take}
 use Rattle.rules.specs.Delta.{Pair, pairLe, pairWords}
 use Rattle.delta.specs.Pairs.{rowOf, Placed, twoWords}
 
@@ -109,15 +109,6 @@ module _ (out₀ out pairs : List ℕ) (k i : ℕ) (len : length pairs ≡ 3 * k
   copied-end h = p .is ∙ ap (λ (l : List Row). front (twoWords l) out₀) (take-all i (rows pairs) (rw (rows-length pairs k len) h))
 
 -- ---- placed, sorted, written out
-
-rows-take : (k : ℕ) (w : List ℕ) → 3 * k ≤ length w → rows (take (3 * k) w) ≡ take k (rows w)
-rows-take zero w h = refl
-rows-take (suc k) [] h = absurd (omega arith)
-rows-take (suc k) (x ∷ []) h = absurd (omega arith)
-rows-take (suc k) (x ∷ y ∷ []) h = absurd (omega arith)
-rows-take (suc k) (x ∷ y ∷ z ∷ w) h =
-    let e : 3 * suc k ≡ suc (suc (suc (3 * k))) = omega arith in
-    rw e (ap (λ (t : List Row). (x, y, z) ∷ t) (rows-take k w (omega arith)))
 
 module _ (w₀ w : List ℕ) (e at k : ℕ) (ps : List Pair) (p : Placed w₀ w at 0 k ps) (few : k ≤ e) (fits : at + 3 * e ≤ length w₀) where
   pub written-count : k ≡ length (sorted pairLe ps)

@@ -23,7 +23,8 @@ use Rattle.rules.specs.Layout.{layoutRule}
 use Rattle.rules.specs.Judge.{Tables, Areas, segmentsIn, placementsIn, judgement, filled}
 use Rattle.rules.specs.Update.{Changes, heldCount, heldEdgeCount, Went, refusedBefore, stale, judged, addressRule, isStale, badTables, shortToUpdate, replaceRule, wentAfter, went, updatedOf, heldBefore, updateAfter}
 use Rattle.rules.specs.Reading.{Accepted}
-use Rattle.rules.proofs.Accepts.{then-both, when-passed, rows-once, layout-passes, layout-accepted}
+use Rattle.answers.proofs.Judging.{then-both}
+use Rattle.rules.proofs.Accepts.{when-passed, rows-once, layout-passes, layout-accepted}
 use Rattle.demand.specs.Demand.{HeldTables, heldIn, Left, byJudge, byUpdate}
 use Rattle.demand.proofs.Passes.{held-are, held-pass}
 

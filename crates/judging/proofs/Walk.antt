@@ -7,7 +7,7 @@ use mir.Val.{Fits}
 use mir.Syntax.{w64}
 use mathlib.Core.Path.{_≡_}
 use mathlib.Core.List.{List, []}
-use lib.ListN.{length, getD, take, length-take, length-drop}
+use lib.ListN.{length, getD, take}
 use Rattle.answers.specs.declared.Refusal.{Refusal}
 use Rattle.answers.specs.declared.Judged.{Judged}
 use Rattle.answers.specs.declared.Judged.the-variants.{Accepted, Refused}
@@ -15,8 +15,9 @@ use Rattle.answers.specs.Answer.{when, refuse1, _then_}
 use Rattle.lists.specs.Lists.{has}
 use Rattle.words.specs.Table.{ids}
 use Rattle.words.specs.Twins.{Twins}
-use Rattle.rules.specs.Tables.{rowWidth, stretch, parentsAt, childrenAt, segmentAt, segmentsFrom, segments, edgesFrom}
+use Rattle.rules.specs.Tables.{rowWidth, parentsAt, childrenAt, segmentAt, segmentsFrom, segments, edgesFrom}
 use Rattle.rules.specs.Rows.{rowRule, edgeCountRule, countedRule, rowsFrom, rowsRule}
+use Rattle.rules.proofs.Places.{length-stretch}
 use Rattle.judging.proofs.Before.{ids-more, flag-hit, flag-miss}
 
 -- ---- the edges: those of the rows to come end where the table does
@@ -46,10 +47,6 @@ module _ (rows : List ℕ) (n i place total : ℕ) (rest : place + edgesFrom row
 
   pub children-fit : (parents children : ℕ) → parents + children ≡ place → total < 2 ^ 64 → Fits w64 (children + childrenAt rows (i * rowWidth))
   children-fit parents children e h = record { fits = omega (arith, room) }
-
--- a stretch that the table has is as long as it says
-length-stretch : (edges : List ℕ) (from k : ℕ) → from + k ≤ length edges → length (stretch edges from (from + k)) ≡ k
-length-stretch edges from k h = simp (length-take, length-drop) (omega arith)
 
 -- ---- the rule: what it says of all rows is what it says of those to come, after the ids and the totals of those before
 

@@ -3,7 +3,7 @@
 -- Assumes nothing.
 use mathlib.Core.Path.{_≡_, refl, sym, ap, _∙_}
 use mathlib.Core.Bool.{Bool, true, false, cond, _&&_, _||_}
-use mathlib.Core.Logic.{_⊎_, inl, inr}
+use mathlib.Core.Logic.{_⊎_, inl, inr, ⊎-elim}
 use mathlib.Core.List.{List, [], _∷_, _++_, map}
 use Prim.Native.Nat.{ℕ, zero, suc, _+_, _<_, _≤_, zero-le}
 use native.Mathlib.Decide.{ℕ-discrete}
@@ -16,6 +16,7 @@ use Rattle.lists.specs.Lists.{has, _∈_, _∉_}
 use Rattle.lists.specs.Sort.{insert, sorted}
 use Rattle.lists.specs.Sets.{Ascending, add, addAll, keep, total}
 use Rattle.lists.proofs.SortLaws.{true-or-false}
+use Rattle.lists.proofs.Tests.{any-sorted}
 use Rattle.lists.proofs.RowOrder as RowOrder
 
 -- ---- tests
@@ -82,20 +83,15 @@ in-left z a b h = has-append z a b ∙ or-left _ _ h
 pub in-right : (z : ℕ) (a b : List ℕ) → z ∈ b → z ∈ (a ++ b)
 in-right z a b h = has-append z a b ∙ or-right (has z a) _ h
 
+pub in-take : (x q : ℕ) (l : List ℕ) → x ∈ take q l → x ∈ l
+in-take x zero l h = never h
+in-take x (suc q) [] h = never h
+in-take x (suc q) (y ∷ l) h = ⊎-elim (λ (e : x ≡ y). rw e (here y l)) (λ (k : x ∈ take q l). there x y l (in-take x q l k)) (in-cons x y (take q l) h)
+
 -- what is sorted has the same keys
 module _ {A : Type 0} (le : A → A → Bool) (key : A → ℕ) (z : ℕ) where
-  has-insert : (x : A) (l : List A) → has z (map key (insert le x l)) ≡ (eqb (key x) z || has z (map key l))
-  has-insert x [] = refl
-  has-insert x (y ∷ l) = go (has-insert x l) (le x y)
-    where
-      go : has z (map key (insert le x l)) ≡ (eqb (key x) z || has z (map key l)) → (t : Bool)
-          → has z (map key (cond t (x ∷ y ∷ l) (y ∷ insert le x l))) ≡ (eqb (key x) z || (eqb (key y) z || has z (map key l)))
-      go ih true = refl
-      go ih false = ap (λ (t : Bool). eqb (key y) z || t) ih ∙ or-swap (eqb (key y) z) (eqb (key x) z) (has z (map key l))
-
   pub has-sorted : (l : List A) → has z (map key (sorted le l)) ≡ has z (map key l)
-  has-sorted [] = refl
-  has-sorted (x ∷ l) = has-insert x (sorted le l) ∙ ap (λ (t : Bool). eqb (key x) z || t) (has-sorted l)
+  has-sorted = any-sorted le (λ (l : List A). has z (map key l)) (λ (x : A). eqb (key x) z) (λ x l. refl)
 
 -- ---- add
 

@@ -1,21 +1,21 @@
 -- 23 through the two indexes: what a search says of `has`, the loop over the placements, and that the indexes say what the rule says.
 -- By the ids of an index, which are the ids of its table in ascending order. Assumes nothing.
-use Prim.Native.Nat.{ℕ, suc, _+_, _*_, _≤_, _<_}
+use Prim.Native.Nat.{ℕ, _+_, _*_, _≤_, _<_}
 use native.Mathlib.Numerals.{add-one}
 use native.Mathlib.Omega.{arith}
-use mathlib.Core.Bool.{Bool, true, false, not, cond, _||_}
+use mathlib.Core.Bool.{Bool, true, false, not}
 use mathlib.Core.Path.{_≡_, refl, sym, ap, _∙_}
 use mathlib.Core.List.{List, [], _∷_}
 use lib.ListN.{length, getD, drop, drop-of-length-le}
 use lib.Seq.{drop-cons}
-use lib.Dec.{eqb, leb}
+use lib.Dec.{leb}
 use Rattle.lists.specs.Lists.{has}
 use Rattle.lists.specs.Sort.{sorted}
 use Rattle.lists.proofs.Tests.{has-sorted}
-use Rattle.words.specs.Table.{ids, whereIs, whereFrom}
+use Rattle.words.specs.Table.{ids, whereIs}
 use Rattle.words.specs.declared.Found.{Found}
 use Rattle.words.specs.declared.Found.the-variants.{At, Nothing}
-use Rattle.words.proofs.TableLaws.{length-ids, ids-at}
+use Rattle.words.proofs.TableLaws.{length-ids, ids-at, has-hit}
 use Rattle.answers.specs.declared.Judged.{Judged}
 use Rattle.answers.specs.declared.Judged.the-variants.{Accepted}
 use Rattle.answers.specs.Answer.{when, refuse1, _then_}
@@ -29,24 +29,12 @@ use Rattle.indexes.proofs.IndexIds.{rows-ids, places-ids}
 
 -- ---- a search
 
-abbrev isAt : Found → Bool
-isAt (At k) = true
-isAt Nothing = false
-
-has-from : (x k : ℕ) (l : List ℕ) → has x l ≡ isAt (whereFrom k l x)
-has-from x k [] = refl
-has-from x k (y ∷ l) = by (eqb y x) (has-from x (suc k) l)
-  where
-    by : (b : Bool) → has x l ≡ isAt (whereFrom (suc k) l x) → b || has x l ≡ isAt (cond b (At k) (whereFrom (suc k) l x))
-    by true e = refl
-    by false e = e
-
 module _ (x : ℕ) (l : List ℕ) (f : Found) (said : f ≡ whereIs l x) where
   pub lacks-hit : (k : ℕ) → f ≡ At k → false ≡ not (has x l)
-  lacks-hit k told = rw (has-from x 0 l, ← said, told) refl
+  lacks-hit k told = rw (has-hit l x, ← said, told) refl
 
   pub lacks-none : f ≡ Nothing → true ≡ not (has x l)
-  lacks-none told = rw (has-from x 0 l, ← said, told) refl
+  lacks-none told = rw (has-hit l x, ← said, told) refl
 
 -- ---- 23: the loop
 

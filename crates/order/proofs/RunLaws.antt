@@ -15,6 +15,7 @@ use lib.Dec.{ltb, eqb}
 use lib.ListN.{length, getD, set, take, drop, length-set, length-drop}
 use lib.Seq.{slice, slice-cons, slice-empty, length-slice, getD-take, getD-drop, take-suc-set, take-all}
 use native.Mathlib.Nat.{le-refl, le-antisymm, sub-self}
+use Rattle.lists.proofs.Cases.{one-left}
 use Rattle.tree.specs.Tree.{least, Low, Tree}
 use Rattle.order.specs.declared.Visit.{Visit}
 use Rattle.order.specs.declared.Visit.the-variants.{Done, Deep}
@@ -123,9 +124,6 @@ pub record Going (n : ℕ) (off edges : List ℕ) (lim : ℕ) (s₀ : St) (deg d
   pub shallow : Low k dep
   pub size : length order ≡ n
   pub same : run n off edges lim n [] s₀ ≡ run n off edges lim (n - k) (take k order) (st n deg dep tree)
-
-one-left : (n k : ℕ) → k < n → n - k ≡ suc (n - (k + 1))
-one-left n k h = omega arith
 
 low-more : (k : ℕ) (l : List ℕ) → Low k l → Low (k + 1) l
 low-more k l h j = omega (arith, h j)

@@ -2,12 +2,13 @@
 -- Assumes nothing.
 use Prim.Native.Nat.{ℕ}
 use mathlib.Core.Path.{_≡_, refl, sym, ap, _∙_}
-use mathlib.Core.Bool.{Bool, true, false, cond, not}
+use mathlib.Core.Bool.{Bool, true, false, not}
 use mathlib.Core.List.{List}
 use Rattle.lists.specs.Lists.{has}
 use Rattle.words.specs.Table.{ids, whereIs}
 use Rattle.words.specs.declared.Found.{Found}
 use Rattle.words.specs.declared.Found.the-variants.{At, Nothing}
+use Rattle.words.proofs.TableLaws.{hit}
 use Rattle.answers.specs.declared.Judged.{Judged}
 use Rattle.answers.specs.declared.Judged.the-variants.{Accepted}
 use Rattle.answers.specs.Answer.{refuse1}
@@ -15,7 +16,7 @@ use Rattle.rules.specs.Model.{idsOf}
 use Rattle.rules.specs.Tables.{heldWidth, heldSegments}
 use Rattle.rules.specs.Shape.{badHeld}
 use Rattle.rules.specs.Ordering.{knownRule}
-use Rattle.tabled.proofs.HasRow.{hit, has-row}
+use Rattle.tabled.proofs.HasRow.{has-row}
 
 module _ (rows edges : List ℕ) (h x : ℕ) (f : Found) (is : f ≡ whereIs (ids rows heldWidth h) x) where
   row-known : (r : ℕ) → f ≡ At r → not (has x (idsOf (heldSegments rows edges h))) ≡ false
@@ -32,11 +33,3 @@ module _ (rows edges : List ℕ) (h x : ℕ) (f : Found) (is : f ≡ whereIs (id
   pub rule-unknown : (g : ℕ) (b : Bool) (v : Judged) → b ≡ badHeld rows edges h g → b ≡ false → f ≡ Nothing → v ≡ refuse1 50 x → v ≡ knownRule rows edges h g x
   unfolding knownRule
   rule-unknown g b v said told e is′ = rw (← said, told, row-unknown e) is′
-
--- ---- where the tables are good
-
-pub known-bad : (x b : Bool) (f : Found) → x ≡ b → x ≡ true → Nothing ≡ cond b Nothing f
-known-bad x b f e told = rw (← e, told) refl
-
-pub known-good : (x b : Bool) (f y : Found) → x ≡ b → x ≡ false → y ≡ f → y ≡ cond b Nothing f
-known-good x b f y e told is = rw (← e, told) is

@@ -11,7 +11,7 @@ use Rattle.words.specs.Part.{part}
 use Rattle.words.specs.Table.{ids, whereIs, Ascends}
 use Rattle.words.specs.declared.Found.{Found}
 use Rattle.words.specs.declared.Found.the-variants.{At, Nothing}
-use Rattle.words.proofs.TableLaws.{row-found}
+use Rattle.words.proofs.TableLaws.{row-found, hit}
 use Rattle.answers.specs.declared.Ordering.{Ordering}
 use Rattle.answers.specs.declared.Eligibility.{Eligibility}
 use Rattle.types.specs.declared.records.OrderingMode.{OrderingMode}
@@ -27,7 +27,7 @@ use Rattle.walk.proofs.Merging.{places}
 use Rattle.walk.specs.declared.Ancestry.{Ancestry}
 use Rattle.walk.specs.Kept.{Listed}
 use Rattle.query.specs.Told.{Told, rowAnswer, prunedIn, remoteIn, incompleteIn, Replied}
-use Rattle.tabled.proofs.HasRow.{hit, has-row}
+use Rattle.tabled.proofs.HasRow.{has-row}
 use Rattle.query.proofs.Pruned.{pruned-are, remote-are, incomplete-are}
 
 -- the count of an answer of a segment with a row

@@ -19,7 +19,7 @@ use Rattle.lists.proofs.SetLaws.{never, keep-same}
 use Rattle.words.specs.Table.{ids, whereIs}
 use Rattle.words.specs.declared.Found.{Found}
 use Rattle.words.specs.declared.Found.the-variants.{At, Nothing}
-use Rattle.words.proofs.TableLaws.{row-found}
+use Rattle.words.proofs.TableLaws.{row-found, hit}
 use Rattle.rules.specs.Model.{Segment, idsOf, lookup}
 use Rattle.rules.specs.Tables.{heldWidth, heldSegments, startOf, parentsAt}
 use Rattle.rules.specs.Ancestors.{Ancestor, parent, further, parentsOf, createdOf, ancestors, family}
@@ -31,7 +31,7 @@ use Rattle.tabled.proofs.ByRow.{lookup-found}
 use Rattle.walk.proofs.ByParents.{parents-at}
 use Rattle.owned.specs.Marks.{rootFound, rootOf}
 use Rattle.query.specs.Told.{prunedIn, remoteIn, incompleteIn}
-use Rattle.tabled.proofs.HasRow.{hit, has-row}
+use Rattle.tabled.proofs.HasRow.{has-row}
 
 -- ---- a row's words
 

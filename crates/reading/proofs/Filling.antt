@@ -3,7 +3,7 @@
 use mathlib.Core.Path.{_≡_, refl, sym, ap, _∙_}
 use mathlib.Core.List.{List, [], _∷_, _++_, append-assoc, append-nil}
 use mathlib.Core.Option.{Option, none, some}
-use Prim.Native.Nat.{ℕ, zero, suc, _+_, _-_, _<_, _≤_}
+use Prim.Native.Nat.{ℕ, _+_, _-_, _<_, _≤_}
 use native.Mathlib.Numerals.{add-one}
 use native.Mathlib.Omega.{arith}
 use lib.ListN.{length, getD, take, drop, set, length-set, take-append-drop}
@@ -13,15 +13,12 @@ use Rattle.reading.specs.declared.numbers.Number.the-variants.{Value, No
 use Rattle.reading.specs.Numbers.{numberOf}
 use Rattle.reading.specs.Fields.{upTo, split}
 use Rattle.reading.specs.Lists.{filled, front, frontWith}
-use Rattle.reading.proofs.Parts.{part-first, to-fits, more-parts, last-part, later}
+use Rattle.reading.proofs.Parts.{part-first, to-fits, more-parts, last-part, later, roomy}
 
 closed : (w₀ w F : List ℕ) (n : ℕ) → n ≤ length w → drop n w ≡ drop n w₀ → take n w ≡ F → w ≡ filled w₀ F
 closed w₀ w F n h d t =
     let m : length F ≡ n = ap length (sym t) ∙ length-take-le n w h in
     sym (take-append-drop n w) ∙ rw (t, d, m) refl
-
-roomy : (room n : ℕ) → n < room → room - n ≡ suc (room - (n + 1))
-roomy room n h = omega arith
 
 drop-more : (w w₀ : List ℕ) (n : ℕ) → drop n w ≡ drop n w₀ → drop (n + 1) w ≡ drop (n + 1) w₀
 drop-more w w₀ n d = sym (drop-drop 1 n w) ∙ ap (drop 1) d ∙ drop-drop 1 n w₀

@@ -13,7 +13,7 @@ use Rattle.reading.specs.declared.lists.Listed.the-variants.{Items, NoLi
 use Rattle.reading.specs.Numbers.{numberOf}
 use Rattle.reading.specs.Fields.{upTo, split}
 use Rattle.reading.specs.Lists.{before, numbersOf, listed}
-use Rattle.reading.proofs.Parts.{part-first, to-fits, more-parts, last-part, later}
+use Rattle.reading.proofs.Parts.{part-first, to-fits, more-parts, last-part, later, roomy}
 
 -- a list told by its length, with n numbers before it
 abbrev pub listedFrom : ℕ → Option (List ℕ) → Listed
@@ -30,10 +30,6 @@ begun room is = let z : room - 0 ≡ room = omega arith in rw z (from-none (numb
 one-more : (n v : ℕ) (o : Option (List ℕ)) → listedFrom n (before (Value v) o) ≡ listedFrom (n + 1) o
 one-more n v none = refl
 one-more n v (some vs) = let z : n + suc (length vs) ≡ (n + 1) + length vs = omega arith in ap Items z
-
--- room for one more
-roomy : (room n : ℕ) → n < room → room - n ≡ suc (room - (n + 1))
-roomy room n h = omega arith
 
 module _ (s : List ℕ) (from to sep : ℕ) (l : from ≤ length s) (e : to ≡ from + upTo sep (drop from s)) (r : Number)
     (k : r ≡ numberOf (take (to - from) (drop from s))) (room n : ℕ) (h : n < room) (w : Listed)

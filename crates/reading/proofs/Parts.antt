@@ -105,3 +105,7 @@ module _ (s : List ℕ) (from to sep : ℕ) (e : to ≡ from + upTo sep (drop fr
   last-part l k =
       part-first
       ∙ ap (λ (ps : List (List ℕ)). take (to - from) (drop from s) ∷ ps) (later-none sep (drop from s) (omega (arith, length-drop from s)))
+
+-- room for one part more
+pub roomy : (room n : ℕ) → n < room → room - n ≡ suc (room - (n + 1))
+roomy room n h = omega arith

@@ -20,6 +20,7 @@ use Rattle.answers.specs.declared.Refusal.{Refusal}
 use Rattle.answers.specs.declared.Judged.{Judged}
 use Rattle.answers.specs.declared.Judged.the-variants.{Accepted, Refused}
 use Rattle.answers.specs.Answer.{when, _then_, refuse1, refuse2, numberOf}
+use Rattle.answers.proofs.Judging.{then-both}
 use Rattle.types.specs.declared.limits.DagLimits.{DagLimits}
 use Rattle.rules.specs.Model.{Segment, Placement, idOf, idsOf, lookup, idLe, byId}
 use Rattle.rules.specs.Rows.{sizeRule, placementsRule, itemsFrom, listRule, listsRule, headRule, rowRule, edgeCountRule, countedRule, rowsFrom, rowsRule, danglingRule}
@@ -34,10 +35,6 @@ use Rattle.rules.proofs.Ascended.{lookup-byId, has-byId, links-byId, le
 use Rattle.rules.proofs.Taken.{times, times-in, in-times, Reciprocal, Taken, order-taken}
 
 -- ---- a chain that accepts
-
-pub then-both : (a b : Judged) → (a then b) ≡ Accepted → (a ≡ Accepted) × (b ≡ Accepted)
-then-both Accepted b e = (refl, e)
-then-both (Refused r) b e = let q : _≡_ {A = ℕ} 0 1 = cc in absurd (omega arith)
 
 pub when-passed : (t : Bool) (r : Refusal) → when t (Refused r) ≡ Accepted → t ≡ false
 when-passed true r e = let q : _≡_ {A = ℕ} 0 1 = cc in absurd (omega arith)

@@ -8,10 +8,10 @@ use mathlib.Core.Option.{Option, none, some}
 use mathlib.Core.List.{List, [], _∷_, _++_, append-assoc}
 use lib.ListN.{length, getD, drop, length-append, length-map}
 use lib.Seq.{getD-append-add, take-at, drop-at}
-use Rattle.rules.specs.Model.{Head, Segment, Site, Placement, Held, layout, byId, idLe, heldOf}
+use Rattle.rules.specs.Model.{Head, Segment, Site, Placement, Held, layout, byId, heldOf}
 use Rattle.rules.specs.Tables.{headWidth, heldWidth, stretch, headAt, parentsAt, childrenAt, optionWords, headWords, siteWords, heldWords, rowsOf, edgesOf, siteAt, heldAt, layoutFrom, layoutOf, heldRows, heldEdges}
-use Rattle.lists.proofs.Sums.{sum-sorted}
 use Rattle.words.specs.Part.{put}
+use Rattle.rules.proofs.Ascended.{length-byId}
 
 -- ---- words after others
 
@@ -156,9 +156,6 @@ decode-encode l u v = from-back l (rowsOf l ++ u) (edgesOf l ++ v) u v [] [] 0 0
 -- so the words of the held tables determine the layout
 pub encode-inj : (k l : List Held) → length k ≡ length l → rowsOf k ≡ rowsOf l → edgesOf k ≡ edgesOf l → k ≡ l
 encode-inj k l n a b = sym (decode-encode k [] []) ∙ rw (a, b, n) (decode-encode l [] [])
-
-length-byId : (ss : List Segment) → length (byId ss) ≡ length ss
-length-byId ss = sum-sorted idLe length (λ (s : Segment). 1) (λ s l. omega arith) ss
 
 -- held areas with the words of a layout at their front stand for the layout: n is the count of rows, and the words past the contents are unread
 pub held-decodes : (ss : List Segment) (ps : List Placement) (rows₀ edges₀ : List ℕ) (k e n : ℕ) → length ss ≡ n

@@ -12,7 +12,7 @@ use Rattle.rules.specs.Model.{Placement, idsOf}
 use Rattle.rules.specs.Tables.{placeWidth, parentsAt, childrenAt, segmentsFrom, placementsFrom, placements}
 
 -- one row of n, at row i
-ids-next : (t : List ℕ) (width n i : ℕ) → getD t (i * width) 0 ∷ ids (drop ((i + 1) * width) t) width n ≡ ids (drop (i * width) t) width (suc n)
+pub ids-next : (t : List ℕ) (width n i : ℕ) → getD t (i * width) 0 ∷ ids (drop ((i + 1) * width) t) width n ≡ ids (drop (i * width) t) width (suc n)
 ids-next t width n i =
     let e : getD (drop (i * width) t) 0 0 ≡ getD t (i * width) 0 = rw add-zero at (getD-drop (i * width) t 0 0) in
     let a : i * width + width ≡ (i + 1) * width = omega (arith, add-mul i 1 width, one-mul width) in

@@ -1,14 +1,14 @@
 -- The order rule, where both ends of each edge tell of it: every segment is taken once, and after all its parents. While it runs, a node waits for
 -- exactly those of its parents that were not taken yet (`Fine`); so a node that is ready has all of them behind it. Assumes nothing.
 use Prim.Native.Nat.{ℕ, zero, suc, _+_, _-_, _<_, _≤_, zero-le, suc-le-suc, max}
-use native.Mathlib.Nat.{le-of-suc-le-suc, not-suc-le-zero, add-zero, sub-zero}
+use native.Mathlib.Nat.{le-of-suc-le-suc, not-suc-le-zero, sub-zero}
 use native.Mathlib.Omega.{arith}
 use mathlib.Core.Path.{_≡_, refl, sym, ap, _∙_}
 use mathlib.Core.Bool.{Bool, true, false, cond, _||_}
 use mathlib.Core.Logic.{_⊎_, inl, inr, ⊎-elim}
 use mathlib.Core.Option.{Option, none, some}
 use mathlib.Core.List.{List, [], _∷_, _++_, map}
-use borrow.Author.Tests.{eq-eqb, ne-eqb, eqb-true, eqb-false}
+use borrow.Author.Tests.{eq-eqb, ne-eqb, eqb-true}
 use lib.Dec.{eqb, ltb}
 use lib.ListN.{length, getD, take, length-append}
 use lib.Seq.{take-append-le, take-length}
@@ -16,9 +16,9 @@ use Rattle.lists.specs.Lists.{has, tick, _∈_, _∉_}
 use Rattle.lists.specs.Sets.{Ascending, add, addAll}
 use Rattle.lists.proofs.Cases.{lt-or-le, eq-or-ne}
 use Rattle.lists.proofs.SortLaws.{true-or-false}
-use Rattle.lists.proofs.SetLaws.{never, here, there, in-cons, has-append, in-left, in-right, add-here, add-there, in-add, asc-add, length-add, in-all, asc-all, fits}
-use Rattle.rules.specs.Model.{Segment, idOf, idsOf, lookup}
-use Rattle.rules.specs.Order.{Node, nodeOf, firstReady, taken, depthOf, touchedNode, touched, Visited, on, deep, visit, Ordered, inOrder, tooDeep, cyclic, afterPick, afterVisit, orderFrom}
+use Rattle.lists.proofs.SetLaws.{never, here, there, in-cons, has-append, in-take, in-add, asc-add, length-add, in-all, asc-all, fits}
+use Rattle.rules.specs.Model.{Segment, idsOf, lookup}
+use Rattle.rules.specs.Order.{Node, nodeOf, firstReady, taken, depthOf, touchedNode, touched, Visited, on, deep, visit, inOrder, afterPick, afterVisit, orderFrom}
 
 -- ---- how often
 
@@ -316,15 +316,6 @@ at-left (x ∷ xs) i (suc j) h = at-left xs i j (le-of-suc-le-suc h)
 pub at-last : (xs : List ℕ) (i : ℕ) → getD (xs ++ (i ∷ [])) (length xs) 0 ≡ i
 at-last [] i = refl
 at-last (x ∷ xs) i = at-last xs i
-
-in-take : (p j : ℕ) (xs : List ℕ) → p ∈ take j xs → p ∈ xs
-in-take p zero xs h = never h
-in-take p (suc j) [] h = never h
-in-take p (suc j) (x ∷ xs) h = go (in-take p j xs) (eqb x p) h
-  where
-    go : (p ∈ take j xs → p ∈ xs) → (t : Bool) → (t || has p (take j xs)) ≡ true → (t || has p xs) ≡ true
-    go ih true k = refl
-    go ih false k = ih k
 
 place-of : (p : ℕ) (xs : List ℕ) → p ∈ xs → (j : ℕ) × (j < length xs) × (getD xs j 0 ≡ p)
 place-of p [] h = never h

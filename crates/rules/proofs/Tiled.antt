@@ -13,7 +13,7 @@ use Rattle.lists.specs.Lists.{tick}
 use Rattle.lists.specs.Sort.{Row, le3, sorted}
 use Rattle.lists.proofs.Cases.{lt-or-le, eq-or-ne}
 use Rattle.lists.proofs.SortLaws.{Asc, sorted-asc, In, in-sorted, of-sorted}
-use Rattle.lists.proofs.RowOrder.{order3, Lex, to-lex, no}
+use Rattle.lists.proofs.RowOrder.{order3, le-first, no}
 use Rattle.lists.proofs.Sums.{sum-sorted}
 use Rattle.rules.specs.declared.Walked.{Walked}
 use Rattle.rules.specs.declared.Walked.the-variants.{Broken}
@@ -129,16 +129,12 @@ above-less : (s t : ℕ) (rs : List Row) → s ≤ t → Above t rs → Above s 
 above-less s t [] h a = tt
 above-less s t (r ∷ rs) h a = (omega (arith, a .0), above-less s t rs h (a .1))
 
-le-start : (x y : Row) → le3 x y ≡ true → x .0 ≤ y .0
-unfolding Lex
-le-start x y e = ⊎-elim (λ (p : x .0 < y .0). omega arith) (λ p. omega (arith, p .0)) (to-lex x y e)
-
 asc-steps : (rs : List Row) → Asc le3 rs → Steps rs
 asc-steps [] a = tt
 asc-steps (r ∷ []) a = (tt, tt)
 asc-steps (r ∷ q ∷ rs) a =
     let s = asc-steps (q ∷ rs) (a .1) in
-    let h : r .0 ≤ q .0 = le-start r q (a .0) in
+    let h : r .0 ≤ q .0 = le-first r q (a .0) in
     ((h, above-less (r .0) (q .0) rs h (s .0)), s)
 
 above-none : (s h : ℕ) (rs : List Row) → Above s rs → h < s → holders h rs ≡ 0

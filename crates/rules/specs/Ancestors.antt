@@ -1,8 +1,7 @@
 -- Document 01: "Ancestors are all ids reached by one or more parent references, with a row or without." `Ancestor` says what they are,
 -- `ancestors` computes them, for every table, also one that has loops or parents without a row.
 -- Assumes nothing.
-use mathlib.Core.Path.{_≡_}
-use mathlib.Core.Bool.{Bool, true, false, cond}
+use mathlib.Core.Bool.{cond}
 use mathlib.Core.List.{List, [], _∷_, _++_}
 use Prim.Native.Nat.{ℕ, zero, suc, _+_}
 use lib.Dec.{eqb}

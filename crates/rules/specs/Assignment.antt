@@ -1,12 +1,12 @@
 -- Document 01: "Assignment: 1, 60, then each assigned segment in order through 61, 62, 63; 63 needs the legacy flag and a text other than 0."
 -- Assumes nothing.
 use Prim.Native.Nat.{ℕ}
-use mathlib.Core.Bool.{Bool, true, false, not, cond, _||_}
+use mathlib.Core.Bool.{Bool, false, not, _||_}
 use mathlib.Core.Option.{Option, none, some}
 use mathlib.Core.List.{List, [], _∷_}
 use lib.Dec.{eqb}
 use Rattle.answers.specs.declared.Judged.{Judged}
-use Rattle.answers.specs.declared.Judged.the-variants.{Accepted, Refused}
+use Rattle.answers.specs.declared.Judged.the-variants.{Accepted}
 use Rattle.answers.specs.Answer.{when, _then_, refuse0, refuse1, refuse2}
 use Rattle.types.specs.declared.records.Assigned.{Assigned}
 use Rattle.rules.specs.Model.{Head, headOf}

@@ -2,12 +2,11 @@
 -- (parent, child), several make merge pairs (child, parent). Pairs ascend. Reason: split, merge, removed, unknown, first that applies.
 -- Added: handover, the summed width of added Active segments."
 -- Assumes nothing.
-use Prim.Native.Nat.{ℕ, zero, suc, _+_, _-_}
-use mathlib.Core.Bool.{Bool, true, false, not, cond, _||_, _&&_}
+use Prim.Native.Nat.{ℕ, _+_, _-_}
+use mathlib.Core.Bool.{Bool, true, false, not, cond, _||_}
 use mathlib.Core.List.{List, [], _∷_, _++_, map}
 use lib.Dec.{eqb, ltb, leb}
 use lib.ListN.{length}
-use Rattle.lists.specs.Lists as Lists
 use Rattle.lists.specs.Lists.{has}
 use Rattle.lists.specs.Sort.{sorted}
 use Rattle.lists.specs.Sets.{keep}

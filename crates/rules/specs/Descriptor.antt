@@ -2,8 +2,8 @@
 -- 1 for their words, "36 PlacementMismatch (id, placement id); first check of the descriptor call", then 9 to 13. It answers the held row.
 -- Assumes nothing.
 use Prim.Native.Nat.{ℕ}
-use mathlib.Core.Bool.{Bool, true, false, not, cond, _||_}
-use mathlib.Core.List.{List, [], _∷_}
+use mathlib.Core.Bool.{Bool, false, not, cond, _||_}
+use mathlib.Core.List.{List, []}
 use lib.Dec.{eqb}
 use Rattle.answers.specs.declared.Judged.{Judged}
 use Rattle.answers.specs.declared.Judged.the-variants as J

@@ -1,7 +1,7 @@
 -- The abstract model: what the word tables of document 01 stand for. Every rule but those of the tables themselves (1 and 2) speaks of this alone.
 -- Assumes nothing.
 use Prim.Native.Nat.{ℕ}
-use mathlib.Core.Bool.{Bool, true, false, cond}
+use mathlib.Core.Bool.{Bool, cond}
 use mathlib.Core.Option.{Option, none, some}
 use mathlib.Core.List.{List, [], _∷_, map}
 use lib.Dec.{eqb, leb}

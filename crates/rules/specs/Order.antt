@@ -8,7 +8,7 @@ use mathlib.Core.List.{List, [], _∷_, _++_, map}
 use lib.Dec.{eqb, ltb}
 use lib.ListN.{length}
 use Rattle.answers.specs.declared.Judged.{Judged}
-use Rattle.answers.specs.declared.Judged.the-variants.{Accepted, Refused}
+use Rattle.answers.specs.declared.Judged.the-variants.{Accepted}
 use Rattle.answers.specs.Answer.{refuse0, refuse2}
 use Rattle.rules.specs.Model.{Segment, byId}
 

@@ -1,12 +1,11 @@
 -- Document 01: the ordering query, `permits_flow`, and parents and children of a segment.
 -- Assumes nothing.
-use mathlib.Core.Path.{_≡_}
 use mathlib.Core.Bool.{Bool, true, false, cond, not, _&&_}
 use mathlib.Core.Option.{Option, none, some}
-use mathlib.Core.List.{List, [], _∷_, _++_}
-use Prim.Native.Nat.{ℕ, zero, suc}
+use mathlib.Core.List.{List, [], _∷_}
+use Prim.Native.Nat.{ℕ}
 use lib.Dec.{ltb}
-use lib.ListN.{length, drop, replicate}
+use lib.ListN.{length, replicate}
 use Rattle.lists.specs.Lists as Lists
 use Rattle.lists.specs.Lists.{has, front}
 use Rattle.lists.specs.Sets.{keep}
@@ -16,7 +15,7 @@ use Rattle.answers.specs.declared.Judged.the-variants as J
 use Rattle.answers.specs.declared.Eligibility.{Eligibility}
 use Rattle.answers.specs.declared.Eligibility.the-variants as E
 use Rattle.answers.specs.declared.Ordering.{Ordering}
-use Rattle.answers.specs.Answer.{when, _then_, refuse0, refuse1, eligibilityNumber}
+use Rattle.answers.specs.Answer.{when, _then_, refuse0, refuse1}
 use Rattle.types.specs.declared.records.OrderingMode.{OrderingMode}
 use Rattle.types.specs.declared.records.OrderingMode.the-variants.{Strict, BrokerManaged}
 use Rattle.rules.specs.Model.{Segment, idsOf, lookup}

@@ -13,7 +13,7 @@ use Rattle.lists.specs.Lists as Lists
 use Rattle.lists.specs.Lists.{tick}
 use Rattle.lists.specs.Sort.{Row, le3, sorted}
 use Rattle.answers.specs.declared.Judged.{Judged}
-use Rattle.answers.specs.declared.Judged.the-variants.{Accepted, Refused}
+use Rattle.answers.specs.declared.Judged.the-variants.{Accepted}
 use Rattle.answers.specs.Answer.{when, _then_, refuse0, refuse1, refuse2, refuse3}
 use Rattle.rules.specs.declared.Walked.{Walked}
 use Rattle.rules.specs.declared.Walked.the-variants.{Tiled, Broken, Short}

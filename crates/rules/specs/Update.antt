@@ -2,11 +2,11 @@
 -- "stale" before 1 and changes nothing; then 1 to 35. Acceptance replaces the held layout. An absent resolved name keeps the old one;
 -- absent controller URLs clear theirs."
 -- Assumes nothing.
-use Prim.Native.Nat.{ℕ, _+_, _/_}
+use Prim.Native.Nat.{ℕ, _/_}
 use mathlib.Core.Bool.{Bool, true, false, not, cond, _&&_, _||_}
-use mathlib.Core.List.{List, [], _∷_}
+use mathlib.Core.List.{List}
 use lib.Dec.{eqb, leb}
-use lib.ListN.{length, replicate}
+use lib.ListN.{length}
 use Rattle.lists.specs.Lists.{front}
 use Rattle.words.specs.Table.{ids}
 use Rattle.answers.specs.declared.Refusal.{Refusal}

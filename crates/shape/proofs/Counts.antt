@@ -8,9 +8,10 @@ use mathlib.Core.List.{List}
 use native.Mathlib.Omega.{arith}
 use borrow.Author.Tests.{eq-eqb, ne-eqb, eqb-true, eqb-false}
 use lib.Dec.{eqb}
+use Rattle.lists.proofs.Cases.{one-left}
 use Rattle.rules.specs.Tables.{parentsAt, childrenAt, edgesFrom}
 use Rattle.rules.specs.Shape.{wrongCounts}
-use Rattle.shape.proofs.Scan.{one-less, none-left}
+use Rattle.shape.proofs.Scan.{none-left}
 
 -- two tests that hold together
 eqb-same : (a b c d : ℕ) → (a ≡ b → c ≡ d) → (c ≡ d → a ≡ b) → eqb a b ≡ eqb c d
@@ -32,7 +33,7 @@ module _ (width : ℕ) (rows : List ℕ) (n i len left : ℕ) (rest : edgesFrom 
 
   module _ (below : i < n) where
     counts-open : edgesFrom width rows n 0 + left ≡ parentsAt rows (i * width) + childrenAt rows (i * width) + edgesFrom width rows (n - (i + 1)) (i + 1) + len
-    counts-open = rw (one-less n i below) at rest
+    counts-open = rw (one-left n i below) at rest
 
     pub counts-parents : left < parentsAt rows (i * width) → true ≡ wrongCounts width rows n len
     unfolding wrongCounts

@@ -1,15 +1,13 @@
 -- What a scan for a bad row uses of `anyBad`, whatever makes a row bad and however wide it is: one row more. n is the number of rows, i the
 -- row that is next, and the scan's invariant, `rest`, says that a row is bad if one of those to come is. Assumes nothing.
-use Prim.Native.Nat.{ℕ, suc, _+_, _-_, _*_, _≤_, _<_}
+use Prim.Native.Nat.{ℕ, _+_, _-_, _*_, _≤_, _<_}
 use native.Mathlib.Nat.{sub-zero}
 use mathlib.Core.Path.{_≡_}
 use mathlib.Core.Bool.{Bool, true, false}
 use mathlib.Core.List.{List}
 use native.Mathlib.Omega.{arith}
+use Rattle.lists.proofs.Cases.{one-left}
 use Rattle.rules.specs.Shape.{anyBad}
-
-pub one-less : (n i : ℕ) → i < n → n - i ≡ suc (n - (i + 1))
-one-less n i below = omega arith
 
 pub none-left : (n i : ℕ) → n ≤ i → n - i ≡ 0
 none-left n i h = omega arith
@@ -23,7 +21,7 @@ module _ (bad : List ℕ → ℕ → Bool) (width : ℕ) (rows : List ℕ) (n i 
 
   module _ (below : i < n) (x : Bool) (said : x ≡ bad rows (i * width)) where
     pub any-hit : x ≡ true → true ≡ v
-    any-hit told = rw (rest, one-less n i below, ← said, told)
+    any-hit told = rw (rest, one-left n i below, ← said, told)
 
     pub any-next : x ≡ false → v ≡ anyBad bad width rows (n - (i + 1)) (i + 1)
-    any-next told = rw (rest, one-less n i below, ← said, told)
+    any-next told = rw (rest, one-left n i below, ← said, told)

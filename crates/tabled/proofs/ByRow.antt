@@ -19,10 +19,9 @@ use Rattle.words.specs.declared.Found.{Found}
 use Rattle.words.specs.declared.Found.the-variants.{At, Nothing}
 use Rattle.rules.specs.Model.{Segment, idsOf, lookup}
 use Rattle.rules.specs.Tables.{heldWidth, parentsAt, childrenAt, startOf, segmentAt, segmentsFrom, heldSegments}
+use Rattle.rules.proofs.Places.{start-next}
+use Rattle.rules.proofs.TableIds.{ids-next}
 use Rattle.tabled.specs.Image.{segmentIn, segmentFound}
-
-start-next : (rows : List ℕ) (i : ℕ) → startOf heldWidth rows (i + 1) ≡ startOf heldWidth rows i + parentsAt rows (i * heldWidth) + childrenAt rows (i * heldWidth)
-start-next rows i = rw add-one
 
 pub segments-length : (rows edges : List ℕ) (n i at : ℕ) → length (segmentsFrom heldWidth rows edges n i at) ≡ n
 segments-length rows edges zero i at = refl
@@ -35,18 +34,10 @@ module _ (rows edges : List ℕ) where
   from-at d (suc n) i zero h = rw add-zero
   from-at d (suc n) i (suc k) h =
       let e : i + 1 + k ≡ i + suc k = omega arith in
-      rw (← start-next rows i) (from-at d n (i + 1) k (le-of-suc-le-suc h) ∙ ap (segmentIn rows edges) e)
+      rw (← start-next heldWidth rows i) (from-at d n (i + 1) k (le-of-suc-le-suc h) ∙ ap (segmentIn rows edges) e)
 
   pub segments-at : (d : Segment) (n k : ℕ) → k < n → getD (heldSegments rows edges n) k d ≡ segmentIn rows edges k
   segments-at d n k h = from-at d n 0 k h ∙ ap (segmentIn rows edges) (zero-add k)
-
-  -- the ids of the rows from row i on are first words
-  ids-next : (n i : ℕ) → ids (drop (i * heldWidth) rows) heldWidth (suc n) ≡ getD rows (i * heldWidth) 0 ∷ ids (drop ((i + 1) * heldWidth) rows) heldWidth n
-  ids-next n i =
-      let a : getD (drop (i * heldWidth) rows) 0 0 ≡ getD rows (i * heldWidth) 0 = getD-drop (i * heldWidth) rows 0 0 ∙ ap (λ (k : ℕ). getD rows k 0) (add-zero (i * heldWidth)) in
-      let s : i * heldWidth + heldWidth ≡ (i + 1) * heldWidth = omega arith in
-      let b : drop heldWidth (drop (i * heldWidth) rows) ≡ drop ((i + 1) * heldWidth) rows = drop-drop heldWidth (i * heldWidth) rows ∙ ap (λ (k : ℕ). drop k rows) s in
-      λ j. a j ∷ ids (b j) heldWidth n
 
   found-from : (id n i : ℕ) → lookup id (segmentsFrom heldWidth rows edges n i (startOf heldWidth rows i)) ≡ segmentFound rows edges (whereFrom i (ids (drop (i * heldWidth) rows) heldWidth n) id)
   found-from id zero i = refl
@@ -54,9 +45,9 @@ module _ (rows edges : List ℕ) where
       let one : i + 1 ≡ suc i = add-one i in
       let rest : lookup id (segmentsFrom heldWidth rows edges n (i + 1) (startOf heldWidth rows (i + 1))) ≡ segmentFound rows edges (whereFrom (i + 1) (ids (drop ((i + 1) * heldWidth) rows) heldWidth n) id) = found-from id n (i + 1) in
       let turned : lookup id (segmentsFrom heldWidth rows edges n (i + 1) (startOf heldWidth rows i + parentsAt rows (i * heldWidth) + childrenAt rows (i * heldWidth))) ≡ segmentFound rows edges (whereFrom (suc i) (ids (drop ((i + 1) * heldWidth) rows) heldWidth n) id) =
-      ap (λ (a : ℕ). lookup id (segmentsFrom heldWidth rows edges n (i + 1) a)) (sym (start-next rows i)) ∙ rest ∙ ap (λ (k : ℕ). segmentFound rows edges (whereFrom k (ids (drop ((i + 1) * heldWidth) rows) heldWidth n) id)) one in
+      ap (λ (a : ℕ). lookup id (segmentsFrom heldWidth rows edges n (i + 1) a)) (sym (start-next heldWidth rows i)) ∙ rest ∙ ap (λ (k : ℕ). segmentFound rows edges (whereFrom k (ids (drop ((i + 1) * heldWidth) rows) heldWidth n) id)) one in
       by (eqb (getD rows (i * heldWidth) 0) id) _ (whereFrom (suc i) (ids (drop ((i + 1) * heldWidth) rows) heldWidth n) id) turned
-      ∙ ap (λ (l : List ℕ). segmentFound rows edges (whereFrom i l id)) (sym (ids-next n i))
+      ∙ ap (λ (l : List ℕ). segmentFound rows edges (whereFrom i l id)) (ids-next rows heldWidth n i)
     where
       by : (t : Bool) (a : Option Segment) (f : Found) → a ≡ segmentFound rows edges f
           → cond t (some (segmentIn rows edges i)) a ≡ segmentFound rows edges (cond t (At i) f)
@@ -70,7 +61,7 @@ module _ (rows edges : List ℕ) where
   ids-from zero i at = refl
   ids-from (suc n) i at =
       ap (λ (l : List ℕ). getD rows (i * heldWidth) 0 ∷ l) (ids-from n (i + 1) (at + parentsAt rows (i * heldWidth) + childrenAt rows (i * heldWidth)))
-      ∙ sym (ids-next n i)
+      ∙ ids-next rows heldWidth n i
 
   pub ids-segments : (n : ℕ) → idsOf (heldSegments rows edges n) ≡ ids rows heldWidth n
   ids-segments n = ids-from n 0 0

@@ -1,6 +1,6 @@
 -- One range more behind those that stand: by a loan of the ranges and the room for one.
 -- Assumes nothing.
-use Prim.Native.Nat.{ℕ, zero, suc, _+_, _-_, _*_, _≤_}
+use Prim.Native.Nat.{ℕ, suc, _+_, _-_, _*_, _≤_}
 use native.Mathlib.Omega.{arith}
 use mathlib.Core.Path.{_≡_, refl, sym, ap, _∙_}
 use mathlib.Core.List.{List, [], _∷_, _++_, append-nil}
@@ -13,22 +13,13 @@ use Rattle.words.specs.declared.Found.the-variants.{At, Nothing}
 use Rattle.words.proofs.PartLaws.{Loan, loan, part-as, part-length}
 use Rattle.lists.specs.Sort.{Row}
 use Rattle.sorts.specs.Rows.{rows}
-use Rattle.sorts.proofs.RowLaws.{rows-length}
+use Rattle.sorts.proofs.RowLaws.{rows-length, rows-take}
 use Rattle.rules.specs.Model.{lookup}
 use Rattle.rules.specs.Tables.{heldWidth}
 use Rattle.rules.specs.Tiling.{rangeFound}
 use Rattle.tabled.specs.Image.{Image, imageSegments}
 use Rattle.transitions.specs.Ranges.{ranges, rangeAt, Grown}
 use Rattle.transitions.proofs.Rowed.{found-none, found-row, found-some, range-row}
-
-pub rows-take : (k : ℕ) (w : List ℕ) → 3 * k ≤ length w → rows (take (3 * k) w) ≡ take k (rows w)
-rows-take zero w h = refl
-rows-take (suc k) [] h = absurd (omega arith)
-rows-take (suc k) (x ∷ []) h = absurd (omega arith)
-rows-take (suc k) (x ∷ y ∷ []) h = absurd (omega arith)
-rows-take (suc k) (x ∷ y ∷ z ∷ w) h =
-    let e : 3 * suc k ≡ suc (suc (suc (3 * k))) = omega arith in
-    rw e (ap (λ (t : List Row). (x, y, z) ∷ t) (rows-take k w (omega arith)))
 
 -- the words from `at` to `at + 3 * k + 3` were lent, and came back as ys with the range x as row k
 pub grown : (w ys : List ℕ) (at k : ℕ) (x : Row) → at + 3 * k + 3 ≤ length w → length ys ≡ length (part w at (at + 3 * k + 3 - at))

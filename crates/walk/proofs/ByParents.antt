@@ -7,35 +7,23 @@
 use Prim.Native.Nat.{ℕ, zero, suc, _+_, _-_, _*_, _<_, _≤_}
 use native.Mathlib.Omega.{arith}
 use mathlib.Core.Path.{_≡_, refl, sym, ap, _∙_}
-use mathlib.Core.Bool.{Bool, true, false, cond}
-use mathlib.Core.Option.{some}
-use mathlib.Core.List.{List, [], _∷_}
+use mathlib.Core.List.{List, []}
 use lib.ListN.{length, getD}
-use lib.Dec.{eqb}
 use Rattle.words.specs.Table.{ids, whereIs, Ascends}
 use Rattle.words.specs.declared.Found.{Found}
 use Rattle.words.specs.declared.Found.the-variants.{At, Nothing}
 use Rattle.words.proofs.TableLaws.{length-ids, ids-at, is-at, row-found}
-use Rattle.rules.specs.Model.{Segment, lookup}
 use Rattle.rules.specs.Tables.{heldWidth, parentsAt, childrenAt, startOf, edgesFrom, segmentsFrom, heldSegments}
 use Rattle.rules.specs.Ancestors.{parentsOf, edgeWords}
 use Rattle.rules.specs.Ordering.{parentsIn}
+use Rattle.rules.proofs.Ascended.{parents-lookup}
 use Rattle.rules.proofs.Places.{start-next, length-stretch}
 use Rattle.tabled.specs.Image.{segmentIn, segmentFound}
 use Rattle.tabled.proofs.ByRow.{lookup-found}
 
-pub parents-lookup : (S : List Segment) (x : ℕ) → parentsOf S x ≡ parentsIn (lookup x S)
-unfolding parentsOf
-parents-lookup [] x = refl
-parents-lookup (s ∷ S) x = go (parents-lookup S x) (eqb (s .head .id) x)
-  where
-    go : parentsOf S x ≡ parentsIn (lookup x S) → (t : Bool) → cond t (s .parents) (parentsOf S x) ≡ parentsIn (cond t (some s) (lookup x S))
-    go ih true = refl
-    go ih false = ih
-
 module _ (rows edges : List ℕ) (n : ℕ) where
   parents-found : (x : ℕ) → parentsOf (heldSegments rows edges n) x ≡ parentsIn (segmentFound rows edges (whereIs (ids rows heldWidth n) x))
-  parents-found x = parents-lookup (heldSegments rows edges n) x ∙ ap parentsIn (lookup-found rows edges x n)
+  parents-found x = parents-lookup x (heldSegments rows edges n) ∙ ap parentsIn (lookup-found rows edges x n)
 
   pub parents-none : (x : ℕ) → whereIs (ids rows heldWidth n) x ≡ Nothing → parentsOf (heldSegments rows edges n) x ≡ []
   parents-none x e = parents-found x ∙ ap (λ (f : Found). parentsIn (segmentFound rows edges f)) e

@@ -19,8 +19,7 @@ use Rattle.lists.proofs.SetLaws.{never, here, there, in-cons, in-left, has-appe
 use Rattle.words.specs.Table.{whereIs, Ascends}
 use Rattle.words.specs.declared.Found.{Found}
 use Rattle.words.specs.declared.Found.the-variants.{At, Nothing}
-use Rattle.words.proofs.TableLaws.{at-is, nothing-is}
-use Rattle.tabled.proofs.HasRow.{hit}
+use Rattle.words.proofs.TableLaws.{at-is, nothing-is, hit}
 use Rattle.walk.specs.Met.{Met, met, meetRow, meet, meetAll, Single, Held}
 use Rattle.walk.proofs.Singles.{both, out, in-snoc, snoc-old, snoc-new, single-snoc, no-more}
 

@@ -19,21 +19,20 @@ use lib.Seq.{take-suc, take-all, take-append-le, getD-set-same, getD-set-other}
 use Rattle.lists.specs.Lists.{has, _∈_, _∉_}
 use Rattle.lists.specs.Sets.{addAll, keep, total}
 use Rattle.lists.proofs.SortLaws.{true-or-false}
-use Rattle.lists.proofs.SetLaws.{never, and-both, and-of, has-place, here, in-cons, in-left, in-right, has-append, in-add, add-here, in-all, all-left, asc-all, asc-keep, in-keep, keep-in, same-ids, total-same}
+use Rattle.lists.proofs.SetLaws.{never, and-both, and-of, has-place, here, in-cons, in-left, in-right, has-append, in-add, add-here, in-all, all-left, asc-all, asc-keep, in-keep, keep-in, same-ids, total-same, in-take}
 use Rattle.words.specs.Table.{ids, whereIs}
 use Rattle.words.specs.declared.Found.{Found}
 use Rattle.words.specs.declared.Found.the-variants.{At, Nothing}
-use Rattle.words.proofs.TableLaws.{length-ids, at-is, nothing-is}
+use Rattle.words.proofs.TableLaws.{length-ids, at-is, nothing-is, hit}
 use Rattle.rules.specs.Model.{Segment}
 use Rattle.rules.specs.Tables.{heldWidth, heldSegments}
 use Rattle.rules.specs.Ancestors.{Ancestor, parent, further, parentsOf, ancestors, family, referencesRead}
 use Rattle.rules.proofs.Ancestry.{ancestor-trans, ancestors-sound, ancestors-complete, family-ascending, in-family}
 use Rattle.rules.proofs.Counting.{total-fits}
 use Rattle.tabled.specs.Image.{Tabled, segmentIn}
-use Rattle.tabled.proofs.HasRow.{hit}
 use Rattle.walk.specs.Met.{Met, met, meetAll, Single, Held, reached}
 use Rattle.walk.proofs.ByParents.{parents-none, parents-row, row-at, row-is, words-are}
-use Rattle.walk.proofs.Singles.{both, out, in-snoc, in-front, in-map, map-in, single-front, single-map, total-all, total-kept, total-map}
+use Rattle.walk.proofs.Singles.{both, out, in-snoc, in-map, map-in, single-front, single-map, total-all, total-kept, total-map}
 use Rattle.walk.proofs.Joined.{joined, joined-snoc, length-joined, in-joined, joined-in}
 use Rattle.walk.proofs.Meeting.{rowless, and-or, MetAll, met-all}
 use Rattle.walk.proofs.Scanning.{in-reached, reached-in}
@@ -156,7 +155,7 @@ module _ (rows edges : List ℕ) (n : ℕ) (t : Tabled rows edges n) where
         more = rw add-one (take-suc (s .list) q 0 k)
 
         row-in : row ∈ s .list
-        row-in = in-front row (q + 1) (s .list) (rw more (in-right row (take q (s .list)) (row ∷ []) (here row [])))
+        row-in = in-take row (q + 1) (s .list) (rw more (in-right row (take q (s .list)) (row ∷ []) (here row [])))
 
         pub row-below : row < n
         row-below = r .held .below row row-in
@@ -169,7 +168,7 @@ module _ (rows edges : List ℕ) (n : ℕ) (t : Tabled rows edges n) where
         reads-fit =
             omega (
               arith,
-              sum-fits (take (q + 1) (s .list)) (λ x i. r .held .below x (in-front x (q + 1) (s .list) i)) (single-front (q + 1) (s .list) (r .held .single)),
+              sum-fits (take (q + 1) (s .list)) (λ x i. r .held .below x (in-take x (q + 1) (s .list) i)) (single-front (q + 1) (s .list) (r .held .single)),
               ap length read-more,
               length-append read (parentsIn row),
               r .count,

@@ -17,7 +17,7 @@ use lib.ListN.{length, take}
 use Rattle.lists.specs.Lists.{has, _∈_, _∉_}
 use Rattle.lists.specs.Sets.{Ascending, add, addAll, keep, total}
 use Rattle.lists.proofs.SortLaws.{true-or-false}
-use Rattle.lists.proofs.SetLaws.{never, here, there, in-cons, in-all, has-append, length-add, asc-all, fits}
+use Rattle.lists.proofs.SetLaws.{never, here, there, in-cons, in-all, has-append, length-add, asc-all, fits, in-take}
 use Rattle.walk.specs.Met.{Single}
 
 -- ---- membership
@@ -50,11 +50,6 @@ snoc-new y l = has-append y l (y ∷ []) ∙ go (has y l)
     go true = refl
     go false = rw (eq-eqb y y refl) refl
 
-pub in-front : (x q : ℕ) (l : List ℕ) → x ∈ take q l → x ∈ l
-in-front x zero l h = never h
-in-front x (suc q) [] h = never h
-in-front x (suc q) (y ∷ l) h = ⊎-elim (λ (e : x ≡ y). rw e (here y l)) (λ (k : x ∈ take q l). there x y l (in-front x q l k)) (in-cons x y (take q l) h)
-
 pub in-map : (f : ℕ → ℕ) (y : ℕ) (l : List ℕ) → y ∈ map f l → (x : ℕ) × (x ∈ l) × (y ≡ f x)
 in-map f y [] h = never h
 in-map f y (x ∷ l) h = go (in-map f y l) (in-cons y (f x) (map f l) h)
@@ -86,7 +81,7 @@ single-snoc x (y ∷ l) s o = (
 pub single-front : (q : ℕ) (l : List ℕ) → Single l → Single (take q l)
 single-front zero l s = tt
 single-front (suc q) [] s = tt
-single-front (suc q) (x ∷ l) s = (out x (take q l) (λ i. both x l (in-front x q l i) (s .0)), single-front q l (s .1))
+single-front (suc q) (x ∷ l) s = (out x (take q l) (λ i. both x l (in-take x q l i) (s .0)), single-front q l (s .1))
 
 pub single-map : (f : ℕ → ℕ) (l : List ℕ) → ((x y : ℕ) → x ∈ l → y ∈ l → f x ≡ f y → x ≡ y) → Single l → Single (map f l)
 single-map f [] inj s = tt

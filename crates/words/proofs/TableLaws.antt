@@ -2,10 +2,12 @@
 --     length-ids, ids-at    the ids as words of the table
 --     is-at, is-nothing     what a search has to show
 --     at-is, nothing-is     what a caller learns
+--     hit, has-hit          a list has what a search finds
+--     unsearched, searched  a search that is made only where a test fails
 --     row-found, row-missing     the same of the words of a table: what a caller of `find_row` cites
 --     word-in, field-in     a word of a row is in the table
 --     asc-true, asc-false, asc-is     the test of the order, and what it tells
-use mathlib.Core.Bool.{Bool, true, false, and-false}
+use mathlib.Core.Bool.{Bool, true, false, cond, _||_, and-false}
 use mathlib.Core.Path.{_≡_, refl, sym, ap, subst, _∙_}
 use mathlib.Core.List.{List, [], _∷_}
 use mathlib.Core.Logic.{⊎-elim}
@@ -16,6 +18,7 @@ use lib.ListN.{length, getD, drop}
 use lib.Seq.{getD-drop}
 use lib.Dec.{T, eqb, ltb}
 use borrow.Author.Tests.{eq-eqb, ne-eqb, lt-ltb, le-ltb}
+use Rattle.lists.specs.Lists.{has}
 use Rattle.lists.proofs.Cases.{lt-or-le, eq-or-ne}
 use Rattle.words.specs.Table.{ids, whereFrom, whereIs, Ascends, ascending}
 use Rattle.words.specs.declared.Found.{Found}
@@ -89,6 +92,30 @@ from-nothing-is (y ∷ l) x k e (suc j) h g = from-nothing-is l x (suc k) (next-
 
 pub nothing-is : (l : List ℕ) (x : ℕ) → whereIs l x ≡ Nothing → (j : ℕ) → j < length l → getD l j 0 ≡ x → ⊥
 nothing-is l x e = from-nothing-is l x 0 e
+
+-- ---- whether a search found something
+
+abbrev pub hit : Found → Bool
+hit (At r) = true
+hit Nothing = false
+
+has-from : (k : ℕ) (l : List ℕ) (x : ℕ) → has x l ≡ hit (whereFrom k l x)
+has-from k [] x = refl
+has-from k (y ∷ l) x = go (has-from (suc k) l x) (eqb y x)
+  where
+    go : has x l ≡ hit (whereFrom (suc k) l x) → (t : Bool) → (t || has x l) ≡ hit (cond t (At k) (whereFrom (suc k) l x))
+    go ih true = refl
+    go ih false = ih
+
+pub has-hit : (l : List ℕ) (x : ℕ) → has x l ≡ hit (whereIs l x)
+has-hit l x = has-from 0 l x
+
+-- what a callee answered is the test t, and a branch has told it
+pub unsearched : (x t : Bool) (f : Found) → x ≡ t → x ≡ true → Nothing ≡ cond t Nothing f
+unsearched x t f said told = rw (← said, told)
+
+pub searched : (x t : Bool) (v f : Found) → x ≡ t → x ≡ false → v ≡ f → v ≡ cond t Nothing f
+searched x t v f said told e = rw (← said, told, e)
 
 -- ---- the test of the order
 

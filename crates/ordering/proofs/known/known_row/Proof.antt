@@ -2,7 +2,7 @@
 -- Assumes nothing.
 use Rattle.shape.proofs.Good.{held-fit, held-ascend}
 use Rattle.ordering.specs.Rows.{knownRow}
-use Rattle.ordering.proofs.Found.{known-bad, known-good}
+use Rattle.words.proofs.TableLaws.{unsearched, searched}
 use borrow.Author.Needs.{needs}
 use Rattle.ordering.proofs.known.known_row.Statement.{statement}
 use Rattle.ordering.proofs.known.known_row.Tie as tie
@@ -12,14 +12,14 @@ is-bad-held-requires c κs = search needs
 
 returns : tie.Need-returns
 unfolding knownRow
-returns c = search known-bad
+returns c = search unsearched
 
 find-row-requires : tie.Need-find-row-requires
 find-row-requires c κs = search (needs, held-fit, held-ascend)
 
 returns-2 : tie.Need-returns-2
 unfolding knownRow
-returns-2 c = search known-good
+returns-2 c = search searched
 
 pub known-row-spec : {M : Type 1} → statement M
 known-row-spec = tie.close (tie.spec is-bad-held-requires returns find-row-requires returns-2)
