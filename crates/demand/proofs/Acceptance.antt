@@ -23,8 +23,8 @@ use Rattle.rules.specs.Layout.{layoutRule}
 use Rattle.rules.specs.Judge.{Tables, Areas, segmentsIn, placementsIn, judgement, filled}
 use Rattle.rules.specs.Update.{Changes, heldCount, heldEdgeCount, Went, refusedBefore, stale, judged, addressRule, isStale, badTables, shortToUpdate, replaceRule, wentAfter, went, updatedOf, heldBefore, updateAfter}
 use Rattle.rules.specs.Reading.{Accepted}
-use Rattle.answers.proofs.Judging.{then-both}
-use Rattle.rules.proofs.Accepts.{when-passed, rows-once, layout-passes, layout-accepted}
+use Rattle.answers.proofs.Judging.{then-both, when-not}
+use Rattle.rules.proofs.Accepts.{rows-once, layout-passes, layout-accepted}
 use Rattle.demand.specs.Demand.{HeldTables, heldIn, Left, byJudge, byUpdate}
 use Rattle.demand.proofs.Passes.{held-are, held-pass}
 
@@ -49,7 +49,7 @@ module _ (epoch size : ℕ) (limits : DagLimits) (t : Tables) (a : Areas) (good 
 past-two : (one two : Bool) (j : Judged) → (when one (refuse0 1) then when two (refuse0 2) then j) ≡ J.Accepted → (one ≡ false) × (j ≡ J.Accepted)
 past-two one two j e =
     let a = then-both (when one (refuse0 1)) (when two (refuse0 2) then j) e in
-    (when-passed one _ (a .0), then-both (when two (refuse0 2)) j (a .1) .1)
+    (when-not one _ (a .0), then-both (when two (refuse0 2)) j (a .1) .1)
 
 judge-sound : (epoch size : ℕ) (limits : DagLimits) (t : Tables) (work : ℕ) (a : Areas) → judgement epoch size limits t work a ≡ J.Accepted
     → Sound (heldIn (filled limits t a) (length (t .rows) / rowWidth) (length (t .edges)))

@@ -14,6 +14,7 @@ use mir.Syntax.{w64}
 use lib.ListN.{length, getD, drop, drop-of-length-le}
 use lib.Seq.{drop-cons}
 use Rattle.lists.specs.Lists.{has}
+use Rattle.lists.proofs.Cases.{one-left}
 use Rattle.words.specs.Table.{ids, whereIs}
 use Rattle.words.specs.declared.Found.{Found}
 use Rattle.words.specs.declared.Found.the-variants.{At, Nothing}
@@ -95,9 +96,6 @@ children-each S s (x ∷ xs) = rw (children-each S s xs)
 
 -- ---- the loop over the rows
 
-one-less : (n i : ℕ) → i < n → n - i ≡ suc (n - (i + 1))
-one-less n i below = omega arith
-
 module _ (table edges cpairs ppairs : List ℕ) (n : ℕ) where
   pub links-start : rowsLinks table edges n cpairs ppairs n 0 0 ≡ rowsLinks table edges n cpairs ppairs (n - 0) 0 0
   links-start = simp sub-zero
@@ -110,11 +108,11 @@ module _ (table edges cpairs ppairs : List ℕ) (n : ℕ) where
     module _ (below : i < n) (x : Judged) (said : x ≡ rowLinks table edges n cpairs ppairs i at) where
       pub links-refused : (r : Refusal) → x ≡ Refused r → x ≡ rowsLinks table edges n cpairs ppairs n 0 0
       unfolding rowsLinks
-      links-refused r told = rw (rest, one-less n i below, ← said, told)
+      links-refused r told = rw (rest, one-left n i below, ← said, told)
 
       pub links-next : x ≡ Accepted → rowsLinks table edges n cpairs ppairs n 0 0 ≡ rowsLinks table edges n cpairs ppairs (n - (i + 1)) (i + 1) (at + parentsAt table (i * heldWidth) + childrenAt table (i * heldWidth))
       unfolding rowsLinks
-      links-next told = rw (rest, one-less n i below, ← said, told)
+      links-next told = rw (rest, one-left n i below, ← said, told)
 
 -- ---- the rule book
 

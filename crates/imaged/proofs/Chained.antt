@@ -6,9 +6,8 @@ use mathlib.Core.Path.{_≡_, sym, ap, _∙_}
 use mathlib.Core.List.{List}
 use lib.ListN.{take}
 use Rattle.words.specs.Part.{part}
-use Rattle.answers.specs.declared.Refusal.{Refusal}
 use Rattle.answers.specs.declared.Judged.{Judged}
-use Rattle.answers.specs.declared.Judged.the-variants.{Accepted, Refused}
+use Rattle.answers.specs.declared.Judged.the-variants.{Accepted}
 use Rattle.answers.specs.Answer.{_then_}
 use Rattle.answers.proofs.Judging.{then-accepted}
 use Rattle.rules.specs.Model.{Segment}
@@ -20,10 +19,6 @@ use Rattle.tabled.proofs.Kept.{part-kept, segments-kept}
 use Rattle.imaged.specs.Asked.{behind}
 use Rattle.imaged.specs.Judging.{orderIn, rangesIn, graphIn}
 use Rattle.imaged.proofs.Front.{front-less}
-
--- what was refused was not accepted
-pub refused-not : {X : Type 0} (j : Judged) (r : Refusal) → j ≡ Refused r → j ≡ Accepted → X
-refused-not j r told e = let z : _≡_ {A = ℕ} 0 1 = cc in absurd (omega arith)
 
 module _ (w₀ w : List ℕ) (n e at : ℕ) (room : behind n e ≤ at) (kept : take at w ≡ take at w₀) (j v : Judged) (told : j ≡ Accepted) where
   pub ranges-both : j ≡ (forksFrom (imageSegments w₀ n e) (imageSegments w₀ n e) then joinsFrom (imageSegments w₀ n e) (imageSegments w₀ n e))

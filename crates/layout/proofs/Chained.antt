@@ -61,10 +61,6 @@ module _ (epoch size : ℕ) (limits : DagLimits) (ss : List Segment) (ps : List 
       let a : incomingRule epoch size limits ss ps ≡ Accepted = sym said ∙ told in
       e ∙ sym (layout-is epoch size limits ss ps ∙ rw a refl)
 
--- a refusal is no acceptance
-pub not-accepted : {A : Type 0} (v : Judged) (r : Refusal) → v ≡ Refused r → v ≡ Accepted → A
-not-accepted v r told e = let z : _≡_ {A = ℕ} 0 1 = cc in absurd (omega arith)
-
 -- no rows, no segments
 pub no-segments : (rows edges : List ℕ) (n : ℕ) → n ≡ 0 → length (segments rows edges n) ≡ 0
 no-segments rows edges n e = segments-count rows edges n ∙ e

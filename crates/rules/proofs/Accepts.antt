@@ -1,30 +1,28 @@
 -- What the rules' acceptance of a layout says of its segments: ids and edge lists have no repeats (8, 20, 21), both ends tell of each edge (24, 25, 27),
 -- so the order holds every segment once, each after its parents: the layout is one that demand 3 speaks of (`Reading.Accepted`). Assumes nothing.
-use Prim.Native.Nat.{ℕ, zero, suc, _+_, _<_, _≤_, zero-le, max}
+use Prim.Native.Nat.{ℕ, _+_, _<_, _≤_, zero-le}
 use native.Mathlib.Omega.{arith}
 use mathlib.Core.Path.{_≡_, refl, sym, ap, _∙_}
 use mathlib.Core.Bool.{Bool, true, false, cond, not, _||_}
 use mathlib.Core.Logic.{_⊎_, inl, inr, ⊎-elim}
 use mathlib.Core.Option.{Option, none, some}
 use mathlib.Core.List.{List, [], _∷_, _++_, map}
-use borrow.Author.Tests.{eq-eqb, ne-eqb, eqb-true, eqb-false, leb-true, leb-false}
-use lib.Dec.{eqb, leb, ltb}
+use borrow.Author.Tests.{eq-eqb, ne-eqb, eqb-true, leb-true, leb-false}
+use lib.Dec.{eqb}
 use lib.ListN.{length, getD, take}
 use Rattle.lists.specs.Lists.{has, tick, _∈_, _∉_}
-use Rattle.lists.specs.Sort.{insert, sorted}
+use Rattle.lists.specs.Sort.{insert}
 use Rattle.lists.specs.Sets.{Ascending}
 use Rattle.lists.proofs.Cases.{lt-or-le, eq-or-ne}
 use Rattle.lists.proofs.SortLaws.{true-or-false}
 use Rattle.lists.proofs.SetLaws.{never, here, there, in-cons, in-left, in-right}
-use Rattle.answers.specs.declared.Refusal.{Refusal}
-use Rattle.answers.specs.declared.Judged.{Judged}
-use Rattle.answers.specs.declared.Judged.the-variants.{Accepted, Refused}
-use Rattle.answers.specs.Answer.{when, _then_, refuse1, refuse2, numberOf}
-use Rattle.answers.proofs.Judging.{then-both}
+use Rattle.answers.specs.declared.Judged.the-variants.{Accepted}
+use Rattle.answers.specs.Answer.{when, _then_, refuse1, refuse2}
+use Rattle.answers.proofs.Judging.{then-both, when-not}
 use Rattle.types.specs.declared.limits.DagLimits.{DagLimits}
-use Rattle.rules.specs.Model.{Segment, Placement, idOf, idsOf, lookup, idLe, byId}
-use Rattle.rules.specs.Rows.{sizeRule, placementsRule, itemsFrom, listRule, listsRule, headRule, rowRule, edgeCountRule, countedRule, rowsFrom, rowsRule, danglingRule}
-use Rattle.rules.specs.Edges.{parentFound, parentKnown, parentRule, childFound, childKnown, childRule, parentsRule, childrenRule, linksRule, linksFrom, edgesRule, epochRule}
+use Rattle.rules.specs.Model.{Segment, Placement, idsOf, lookup, idLe, byId}
+use Rattle.rules.specs.Rows.{sizeRule, placementsRule, itemsFrom, listRule, listsRule, headRule, rowRule, countedRule, rowsFrom, rowsRule, danglingRule}
+use Rattle.rules.specs.Edges.{parentFound, parentKnown, parentRule, childFound, childKnown, childRule, parentsRule, childrenRule, linksRule, linksFrom, edgesRule}
 use Rattle.rules.specs.Order.{nodeOf, Ordered, inOrder, tooDeep, cyclic, orderFrom, orderOf, orderedRule, orderRule}
 use Rattle.rules.specs.Tiling.{transitionsRule, activeOf, coverageRule}
 use Rattle.rules.specs.Layout.{graphRule, layoutRule}
@@ -34,12 +32,6 @@ use Rattle.rules.specs.Reading as Reading
 use Rattle.rules.proofs.Ascended.{lookup-byId, has-byId, links-byId, length-byId, parents-lookup}
 use Rattle.rules.proofs.Taken.{times, times-in, in-times, Reciprocal, Taken, order-taken}
 
--- ---- a chain that accepts
-
-pub when-passed : (t : Bool) (r : Refusal) → when t (Refused r) ≡ Accepted → t ≡ false
-when-passed true r e = let q : _≡_ {A = ℕ} 0 1 = cc in absurd (omega arith)
-when-passed false r e = refl
-
 -- ---- no repeats in an edge list
 
 seen-none : (number id z : ℕ) (before l : List ℕ) → itemsFrom number id before l ≡ Accepted → z ∈ before → times z l ≡ 0
@@ -48,7 +40,7 @@ seen-none number id z before [] e h = refl
 seen-none number id z before (x ∷ xs) e h =
     let a = then-both (when (eqb x id) (refuse1 19 id)) _ e in
     let b = then-both (when (has x before) (refuse2 number id x)) _ (a .1) in
-    let fresh : x ∉ before = when-passed (has x before) _ (b .0) in
+    let fresh : x ∉ before = when-not (has x before) _ (b .0) in
     let other : x ≡ z → ⊥ = λ q. never (sym fresh ∙ (ap (λ (k : ℕ). has k before) q ∙ h)) in
     omega (arith, ap tick (ne-eqb x z other), seen-none number id z (before ++ (x ∷ [])) xs (b .1) (in-left z before (x ∷ []) h))
 
@@ -84,7 +76,7 @@ module _ (layout limit : ℕ) where
       let a = then-both (countedRule layout limit seen (p + length (s .parents)) (c + length (s .children)) s) _ e in
       let b = then-both (when (has (s .head .id) seen) (refuse1 8 (s .head .id))) _ (a .0) in
       let d = then-both (rowRule layout s) _ (b .1) in
-      record { new = when-passed (has (s .head .id) seen) _ (b .0); row = d .0; rest = a .1 }
+      record { new = when-not (has (s .head .id) seen) _ (b .0); row = d .0; rest = a .1 }
 
   ids-seen : (z p c : ℕ) (seen : List ℕ) (ss : List Segment) → rowsFrom layout limit seen p c ss ≡ Accepted → z ∈ seen → times z (idsOf ss) ≡ 0
   ids-seen z p c seen [] e h = refl
@@ -212,7 +204,7 @@ unfolding parentRule parentKnown parentFound
 parent-known S s p e = go (lookup p S) refl e
   where
     pass : (q : Segment) → parentFound s q ≡ Accepted → s .head .id ∈ q .children
-    pass q k = let a = then-both (when (not (has (s .head .id) (q .children))) (refuse2 25 (q .head .id) (s .head .id))) _ k in not-false (has (s .head .id) (q .children)) (when-passed _ _ (a .0))
+    pass q k = let a = then-both (when (not (has (s .head .id) (q .children))) (refuse2 25 (q .head .id) (s .head .id))) _ k in not-false (has (s .head .id) (q .children)) (when-not _ _ (a .0))
 
     go : (o : Option Segment) → lookup p S ≡ o → parentKnown s p o ≡ Accepted → (q : Segment) × (lookup p S ≡ some q) × (s .head .id ∈ q .children)
     go none f k = let z : _≡_ {A = ℕ} 0 1 = cc in absurd (omega arith)
@@ -224,7 +216,7 @@ unfolding childRule childKnown childFound
 child-known S s c e = go (lookup c S) refl e
   where
     pass : (q : Segment) → childFound s q ≡ Accepted → s .head .id ∈ q .parents
-    pass q k = let a = then-both (when (not (has (s .head .id) (q .parents))) (refuse2 25 (s .head .id) (q .head .id))) _ k in not-false (has (s .head .id) (q .parents)) (when-passed _ _ (a .0))
+    pass q k = let a = then-both (when (not (has (s .head .id) (q .parents))) (refuse2 25 (s .head .id) (q .head .id))) _ k in not-false (has (s .head .id) (q .parents)) (when-not _ _ (a .0))
 
     go : (o : Option Segment) → lookup c S ≡ o → childKnown s c o ≡ Accepted → (q : Segment) × (lookup c S ≡ some q) × (s .head .id ∈ q .parents)
     go none f k = let z : _≡_ {A = ℕ} 0 1 = cc in absurd (omega arith)

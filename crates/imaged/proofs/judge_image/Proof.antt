@@ -1,7 +1,6 @@
 -- `judge_image` is 24 to 27 and then 28 to 35 of the input tables: where the first accept, every edge leads to a row, which the second ask.
 -- Assumes nothing.
 use Rattle.imaged.proofs.Whole.{image-refused, image-graphed, image-judged, image-order}
-use Rattle.imaged.proofs.Chained.{refused-not}
 use Rattle.transitions.proofs.Passing.{kept-twice}
 use borrow.Author.Needs.{needs}
 use Rattle.imaged.proofs.judge_image.Statement.{statement}
@@ -20,7 +19,7 @@ same-length : tie.Need-same-length
 same-length c = search needs
 
 returns : tie.Need-returns
-returns c = (search image-refused, (search needs, λ accepted. search refused-not))
+returns c = (search image-refused, (search needs, λ accepted. search needs))
 
 mul-judge-graph : tie.Need-mul-judge-graph
 mul-judge-graph c = search needs

@@ -2,9 +2,10 @@
 -- Assumes nothing.
 use native.Mathlib.Omega.{arith}
 use mathlib.Core.Path.{_≡_, sym, _∙_}
+use Rattle.answers.proofs.Judging.{refused-not}
 use Rattle.rules.specs.Tables.{segments, placements}
 use Rattle.incoming.proofs.Chains.{incoming-once}
-use Rattle.layout.proofs.Chained.{given, refused-early, refused-empty, judged-late, not-accepted, no-segments}
+use Rattle.layout.proofs.Chained.{given, refused-early, refused-empty, judged-late, no-segments}
 use borrow.Author.Needs.{needs}
 use Rattle.layout.proofs.judge_in.Statement.{statement}
 use Rattle.layout.proofs.judge_in.Tie as tie
@@ -26,7 +27,7 @@ returns c =
     let a = c .before .before .before .before .before .before .before .before .before .before .args in
     let i = c .before .before .before .before .judge-incoming in
     let told = c .enum-told2 .given .1 in
-    (refused-early (a .epoch) (a .size) (a .limits) (segments (a .rows .now) (a .edges .now) (a .n)) (placements (a .places .now) (a .m)) _ (i .ensures .0) _ told, (λ ok. not-accepted _ _ told ok, i .ensures .1 .1))
+    (refused-early (a .epoch) (a .size) (a .limits) (segments (a .rows .now) (a .edges .now) (a .n)) (placements (a .places .now) (a .m)) _ (i .ensures .0) _ told, (λ ok. refused-not _ _ told ok, i .ensures .1 .1))
 
 refuse-requires : tie.Need-refuse-requires
 refuse-requires c κs = search needs
@@ -38,7 +39,7 @@ returns-2 : tie.Need-returns-2
 returns-2 c =
     let a = c .before .before .before .before .before .before .before .before .before .before .before .before .args in
     let i = c .before .before .before .before .before .before .judge-incoming in
-    (refused-empty (a .epoch) (a .size) (a .limits) (segments (a .rows .now) (a .edges .now) (a .n)) (placements (a .places .now) (a .m)) _ (i .ensures .0) _ (c .before .before .enum-told .given .1) (no-segments (a .rows .now) (a .edges .now) (a .n) (c .before .if1 .taken)) (c .refuse .ensures), (λ ok. not-accepted _ _ (c .refuse .ensures) ok, i .ensures .1 .1))
+    (refused-empty (a .epoch) (a .size) (a .limits) (segments (a .rows .now) (a .edges .now) (a .n)) (placements (a .places .now) (a .m)) _ (i .ensures .0) _ (c .before .before .enum-told .given .1) (no-segments (a .rows .now) (a .edges .now) (a .n) (c .before .if1 .taken)) (c .refuse .ensures), (λ ok. refused-not _ _ (c .refuse .ensures) ok, i .ensures .1 .1))
 
 judge-laid-requires : tie.Need-judge-laid-requires
 judge-laid-requires c κs =

@@ -2,7 +2,7 @@
 -- Assumes nothing.
 use Rattle.answers.proofs.Judging.{then-same}
 use Rattle.tabled.proofs.Kept.{image-kept}
-use Rattle.imaged.proofs.Chained.{graph-both, refused-not, order-stays, behind-order}
+use Rattle.imaged.proofs.Chained.{graph-both, order-stays, behind-order}
 use Rattle.imaged.specs.Judging.{graphIn}
 use borrow.Author.Needs.{needs}
 use Rattle.imaged.proofs.graph.judge_graph.Statement.{statement}
@@ -22,7 +22,7 @@ same-length c = search needs
 
 returns : tie.Need-returns
 unfolding graphIn
-returns c = (search then-same, (search needs, λ accepted. search refused-not))
+returns c = (search then-same, (search needs, λ accepted. search needs))
 
 mul-judge-ranges : tie.Need-mul-judge-ranges
 mul-judge-ranges c = search needs
