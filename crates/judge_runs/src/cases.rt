@@ -69,6 +69,19 @@ fn judge(
     ends_of(order)
 }
 
+// The largest areas come from functions, so that no proof has their words before it.
+fn spare_work() -> [u64; 131136] {
+    [SPARE; 131136]
+}
+
+fn spare_rows() -> [u64; 61455] {
+    [SPARE; 61455]
+}
+
+fn spare_order() -> [u64; 4097] {
+    [SPARE; 4097]
+}
+
 // In areas of so many words.
 pub fn in_room(
     label: &[u8],
@@ -86,10 +99,10 @@ pub fn in_room(
     requires { ⌜ l ≤ 514 ⌝ }
     requires { ⌜ o ≤ 4097 ⌝ }
 {
-    let mut work = [SPARE; 131136];
-    let mut held = [SPARE; 61455];
+    let mut work = spare_work();
+    let mut held = spare_rows();
     let mut links = [SPARE; 514];
-    let mut order = [SPARE; 4097];
+    let mut order = spare_order();
     judge(
         label,
         epoch,

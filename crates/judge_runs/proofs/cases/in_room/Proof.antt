@@ -6,6 +6,15 @@ use borrow.Author.Needs.{needs}
 use Rattle.judge_runs.proofs.cases.in_room.Statement.{statement}
 use Rattle.judge_runs.proofs.cases.in_room.Tie as tie
 
+spare-work-requires : tie.Need-spare-work-requires
+spare-work-requires c κs = search needs
+
+spare-rows-requires : tie.Need-spare-rows-requires
+spare-rows-requires c κs = search needs
+
+spare-order-requires : tie.Need-spare-order-requires
+spare-order-requires c κs = search needs
+
 array-borrow-prefix-work : tie.Need-array-borrow-prefix-work
 array-borrow-prefix-work c = search needs
 
@@ -40,6 +49,9 @@ pub in-room-spec : {M : Type 1} → statement M
 in-room-spec =
     tie.close
     (tie.spec
+    spare-work-requires
+    spare-rows-requires
+    spare-order-requires
     array-borrow-prefix-work
     slice-aggregate-judge
     array-borrow-prefix-held
