@@ -2,7 +2,8 @@
 // follow one is read from its fixed table.
 use answers::Judged;
 use answers::Refusal;
-use libc::STDOUT_FILENO;
+use shown::text;
+use shown::word;
 use types::limits::DagLimits;
 use types::range::KeyRange;
 use types::range::Made;
@@ -16,30 +17,8 @@ use types::state::SegmentState;
 
 const ABSENT: Optional = Optional { flag: 0, word: 0 };
 
-fn text(bytes: &[u8]) {
-    io::write_all(STDOUT_FILENO, bytes);
-}
-
-// A space and the number.
-fn word(n: u64) {
-    text(b" ");
-    io::print_decimal(STDOUT_FILENO, n);
-}
-
-// The value, if the refusal carries one at this place.
-fn value(carried: u64, place: u64, v: u64) {
-    if place < carried {
-        word(v);
-    }
-}
-
 fn refusal(r: Refusal) {
-    let kind = answers::kinds::kind_of(r.number);
-    word(r.number);
-    value(kind.values, 0, r.a);
-    value(kind.values, 1, r.b);
-    value(kind.values, 2, r.c);
-    value(kind.values, 3, r.d);
+    shown::refusal(r);
     text(b"\n");
 }
 
@@ -106,14 +85,9 @@ fn ranges() {
     made(b"range 65536..65535", KeyRange::new(65536, 65535));
     made(b"range 0..65536", KeyRange::new(0, 65536));
     made(b"range 5..4", KeyRange::new(5, 4));
-    let low = KeyRange {
-        start: 0,
-        end: 32767,
-    };
-    let high = KeyRange {
-        start: 32768,
-        end: 65535,
-    };
+}
+
+fn two_ranges(low: KeyRange, high: KeyRange) {
     truth(
         b"0..32767 is next to 32768..65535:",
         low.is_adjacent_to(high),
@@ -131,6 +105,18 @@ fn ranges() {
         b"0..65535 holds all of 0..32767:",
         KeyRange::FULL.contains_range(low),
     );
+}
+
+fn halves() {
+    let low = KeyRange {
+        start: 0,
+        end: 32767,
+    };
+    let high = KeyRange {
+        start: 32768,
+        end: 65535,
+    };
+    two_ranges(low, high);
 }
 
 fn lists() {
@@ -234,16 +220,20 @@ fn descriptors() {
     );
 }
 
+fn limits(l: DagLimits) {
+    text(b"default limits:");
+    word(l.segments);
+    word(l.edges);
+    word(l.depth);
+    word(l.size);
+    text(b"\n");
+}
+
 fn main() {
     ranges();
+    halves();
     lists();
     lifecycles();
     descriptors();
-    text(b"default limits:");
-    let limits = DagLimits::DEFAULT;
-    word(limits.segments);
-    word(limits.edges);
-    word(limits.depth);
-    word(limits.size);
-    text(b"\n");
+    limits(DagLimits::DEFAULT);
 }

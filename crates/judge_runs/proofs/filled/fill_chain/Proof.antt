@@ -1,32 +1,23 @@
--- The placements are filled in turn: the word index is 4 times the row index, which stays within what is asked.
+-- The rows are filled in turn: the word index is 11 times the row index, which stays within what is asked.
 -- Assumes nothing.
 use lib.ListN.{length}
 use mathlib.Core.Path.{_≡_}
 use Prim.Native.Nat.{_-_, _*_, _≤_}
 use borrow.Author.Needs.{needs}
-use Rattle.judge_runs.proofs.fill_places.Statement.{statement}
-use Rattle.judge_runs.proofs.fill_places.Tie as tie
+use Rattle.judge_runs.proofs.filled.fill_chain.Statement.{statement}
+use Rattle.judge_runs.proofs.filled.fill_chain.Tie as tie
 
 abbrev Inv-loop : tie.InvT-loop
-Inv-loop places₀ n i₀ at₀ places i at = (i ≤ n) × (at ≡ 4 * i) × (length places ≡ length places₀)
+Inv-loop rows₀ n i₀ at₀ rows i at = (i ≤ n) × (at ≡ 11 * i) × (length rows ≡ length rows₀)
 
 abbrev μ-loop : tie.MeasureT-loop
-μ-loop places₀ n i₀ at₀ places i at = n - i
+μ-loop rows₀ n i₀ at₀ rows i at = n - i
 
 loop-holds : tie.Need-loop-holds Inv-loop μ-loop
 loop-holds c = search needs
 
-add-set : tie.Need-add-set Inv-loop μ-loop
-add-set c = search needs
-
-set-requires : tie.Need-set-requires Inv-loop μ-loop
-set-requires c κs = search needs
-
-add-set-2 : tie.Need-add-set-2 Inv-loop μ-loop
-add-set-2 c = search needs
-
-set-requires-2 : tie.Need-set-requires-2 Inv-loop μ-loop
-set-requires-2 c κs = search needs
+sealed-row-requires : tie.Need-sealed-row-requires Inv-loop μ-loop
+sealed-row-requires c κs = search needs
 
 add-i : tie.Need-add-i Inv-loop μ-loop
 add-i c = search needs
@@ -46,17 +37,14 @@ same-length c = search needs
 returns : tie.Need-returns Inv-loop μ-loop
 returns c = search needs
 
-pub fill-places-spec : {M : Type 1} → statement M
-fill-places-spec =
+pub fill-chain-spec : {M : Type 1} → statement M
+fill-chain-spec =
     tie.close
     (tie.spec
     Inv-loop
     μ-loop
     loop-holds
-    add-set
-    set-requires
-    add-set-2
-    set-requires-2
+    sealed-row-requires
     add-i
     add-at
     loop-less

@@ -4,8 +4,8 @@ use lib.ListN.{length}
 use mathlib.Core.Path.{_≡_}
 use Prim.Native.Nat.{_-_, _*_, _≤_}
 use borrow.Author.Needs.{needs}
-use Rattle.judge_runs.proofs.fill_links.Statement.{statement}
-use Rattle.judge_runs.proofs.fill_links.Tie as tie
+use Rattle.judge_runs.proofs.filled.fill_links.Statement.{statement}
+use Rattle.judge_runs.proofs.filled.fill_links.Tie as tie
 
 abbrev Inv-loop : tie.InvT-loop
 Inv-loop edges₀ n i₀ at₀ edges i at = (i ≤ n) × (at ≡ 2 * i) × (length edges ≡ length edges₀)
@@ -16,20 +16,8 @@ abbrev μ-loop : tie.MeasureT-loop
 loop-holds : tie.Need-loop-holds Inv-loop μ-loop
 loop-holds c = search needs
 
-add-set : tie.Need-add-set Inv-loop μ-loop
-add-set c = search needs
-
-set-requires : tie.Need-set-requires Inv-loop μ-loop
-set-requires c κs = search needs
-
-add-set-2 : tie.Need-add-set-2 Inv-loop μ-loop
-add-set-2 c = search needs
-
-add-set-3 : tie.Need-add-set-3 Inv-loop μ-loop
-add-set-3 c = search needs
-
-set-requires-2 : tie.Need-set-requires-2 Inv-loop μ-loop
-set-requires-2 c κs = search needs
+link-requires : tie.Need-link-requires Inv-loop μ-loop
+link-requires c κs = search needs
 
 add-i : tie.Need-add-i Inv-loop μ-loop
 add-i c = search needs
@@ -56,11 +44,7 @@ fill-links-spec =
     Inv-loop
     μ-loop
     loop-holds
-    add-set
-    set-requires
-    add-set-2
-    add-set-3
-    set-requires-2
+    link-requires
     add-i
     add-at
     loop-less

@@ -1,29 +1,23 @@
--- The rows are filled in turn: the word index is 11 times the row index, which stays within what is asked.
+-- The placements are filled in turn: the word index is 4 times the row index, which stays within what is asked.
 -- Assumes nothing.
 use lib.ListN.{length}
 use mathlib.Core.Path.{_≡_}
 use Prim.Native.Nat.{_-_, _*_, _≤_}
 use borrow.Author.Needs.{needs}
-use Rattle.judge_runs.proofs.fill_actives.Statement.{statement}
-use Rattle.judge_runs.proofs.fill_actives.Tie as tie
+use Rattle.judge_runs.proofs.filled.placements.Statement.{statement}
+use Rattle.judge_runs.proofs.filled.placements.Tie as tie
 
 abbrev Inv-loop : tie.InvT-loop
-Inv-loop rows₀ n i₀ at₀ rows i at = (i ≤ n) × (at ≡ 11 * i) × (length rows ≡ length rows₀)
+Inv-loop places₀ n i₀ at₀ places i at = (i ≤ n) × (at ≡ 4 * i) × (length places ≡ length places₀)
 
 abbrev μ-loop : tie.MeasureT-loop
-μ-loop rows₀ n i₀ at₀ rows i at = n - i
+μ-loop places₀ n i₀ at₀ places i at = n - i
 
 loop-holds : tie.Need-loop-holds Inv-loop μ-loop
 loop-holds c = search needs
 
-sub-active-row : tie.Need-sub-active-row Inv-loop μ-loop
-sub-active-row c = search needs
-
-mul-active-row : tie.Need-mul-active-row Inv-loop μ-loop
-mul-active-row c = search needs
-
-active-row-requires : tie.Need-active-row-requires Inv-loop μ-loop
-active-row-requires c κs = search needs
+placed-row-requires : tie.Need-placed-row-requires Inv-loop μ-loop
+placed-row-requires c κs = search needs
 
 add-i : tie.Need-add-i Inv-loop μ-loop
 add-i c = search needs
@@ -43,16 +37,14 @@ same-length c = search needs
 returns : tie.Need-returns Inv-loop μ-loop
 returns c = search needs
 
-pub fill-actives-spec : {M : Type 1} → statement M
-fill-actives-spec =
+pub placements-spec : {M : Type 1} → statement M
+placements-spec =
     tie.close
     (tie.spec
     Inv-loop
     μ-loop
     loop-holds
-    sub-active-row
-    mul-active-row
-    active-row-requires
+    placed-row-requires
     add-i
     add-at
     loop-less

@@ -4,8 +4,8 @@ use lib.ListN.{length}
 use mathlib.Core.Path.{_≡_}
 use Prim.Native.Nat.{_-_, _*_, _≤_}
 use borrow.Author.Needs.{needs}
-use Rattle.judge_runs.proofs.fill_chain.Statement.{statement}
-use Rattle.judge_runs.proofs.fill_chain.Tie as tie
+use Rattle.judge_runs.proofs.filled.actives.Statement.{statement}
+use Rattle.judge_runs.proofs.filled.actives.Tie as tie
 
 abbrev Inv-loop : tie.InvT-loop
 Inv-loop rows₀ n i₀ at₀ rows i at = (i ≤ n) × (at ≡ 11 * i) × (length rows ≡ length rows₀)
@@ -16,8 +16,14 @@ abbrev μ-loop : tie.MeasureT-loop
 loop-holds : tie.Need-loop-holds Inv-loop μ-loop
 loop-holds c = search needs
 
-sealed-row-requires : tie.Need-sealed-row-requires Inv-loop μ-loop
-sealed-row-requires c κs = search needs
+sub-active-row : tie.Need-sub-active-row Inv-loop μ-loop
+sub-active-row c = search needs
+
+mul-active-row : tie.Need-mul-active-row Inv-loop μ-loop
+mul-active-row c = search needs
+
+active-row-requires : tie.Need-active-row-requires Inv-loop μ-loop
+active-row-requires c κs = search needs
 
 add-i : tie.Need-add-i Inv-loop μ-loop
 add-i c = search needs
@@ -37,14 +43,16 @@ same-length c = search needs
 returns : tie.Need-returns Inv-loop μ-loop
 returns c = search needs
 
-pub fill-chain-spec : {M : Type 1} → statement M
-fill-chain-spec =
+pub actives-spec : {M : Type 1} → statement M
+actives-spec =
     tie.close
     (tie.spec
     Inv-loop
     μ-loop
     loop-holds
-    sealed-row-requires
+    sub-active-row
+    mul-active-row
+    active-row-requires
     add-i
     add-at
     loop-less
