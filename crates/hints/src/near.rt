@@ -1,52 +1,76 @@
 // A search that is told where to look.
 ghost use mathlib.Core.Bool.{true};
 ghost use mathlib.Core.Path.{_≡_};
-ghost use Prim.Native.Nat.{_*_, _<_, _≤_};
-ghost use lib.ListN.{length};
+ghost use Prim.Native.Nat.{ℕ, _*_, _<_, _≤_};
+ghost use lib.ListN.{length, getD};
 ghost use Rattle.words.specs.Table.{ids, Ascends, whereIs};
-ghost use Rattle.words.specs.declared.Found.the-variants.{Nothing};
+ghost use Rattle.words.specs.declared.Found.the-variants.{At, Nothing};
 use words::Found;
 
-// Are the rows before row `at` below this id, and those from it on above? Ids ascend, so its two neighbours tell.
-fn is_between(rows: &[u64], width: usize, count: usize, id: u64, at: usize) -> bool
+// Has row `at` this id?
+fn stands_at(rows: &[u64], width: usize, count: usize, id: u64, at: usize) -> bool
     requires { ⌜ (0 < width) × (count * width ≤ length (now rows)) × Ascends (ids (now rows) width count) ⌝ }
-    requires { ⌜ at ≤ count ⌝ }
-    ensures { λ r. ⌜ (r ≡ true → whereIs (ids (now (rows .entry)) width count) id ≡ Nothing) ⌝ }
+    ensures { λ r. ⌜ (r ≡ true → At at ≡ whereIs (ids (now (rows .entry)) width count) id) ⌝ }
 {
-    if 0 < at {
-        if id <= rows[(at - 1) * width] {
-            return false;
-        }
-    }
     if at < count {
-        if rows[at * width] <= id {
-            return false;
-        }
+        return rows[at * width] == id;
     }
-    true
+    false
 }
 
-// The row that has this id, as `words::find_row` finds it. The hint: row `at` has it, or none has it and row `at` is the first above it.
-// A hint that is right takes three looks at most.
+// Are the rows before row `at` below this id? Ids ascend, so the last of them tells.
+fn is_past(rows: &[u64], width: usize, count: usize, id: u64, at: usize) -> bool
+    requires { ⌜ (0 < width) × (count * width ≤ length (now rows)) × Ascends (ids (now rows) width count) × (at ≤ count) ⌝ }
+    ensures { λ r. ⌜ (r ≡ true → (k : ℕ) → k < at → getD (ids (now (rows .entry)) width count) k 0 < id) ⌝ }
+{
+    if at == 0 {
+        return true;
+    }
+    rows[(at - 1) * width] < id
+}
+
+// Are the rows from row `at` on above it? The first of them tells.
+fn is_short_of(rows: &[u64], width: usize, count: usize, id: u64, at: usize) -> bool
+    requires { ⌜ (0 < width) × (count * width ≤ length (now rows)) × Ascends (ids (now rows) width count) × (at ≤ count) ⌝ }
+    ensures { λ r. ⌜ (r ≡ true → (k : ℕ) → at ≤ k → k < count → id < getD (ids (now (rows .entry)) width count) k 0) ⌝ }
+{
+    if at == count {
+        return true;
+    }
+    id < rows[at * width]
+}
+
+// Does the id lie between two rows, the second of which is row `at`?
+fn lies_before(rows: &[u64], width: usize, count: usize, id: u64, at: usize) -> bool
+    requires { ⌜ (0 < width) × (count * width ≤ length (now rows)) × Ascends (ids (now rows) width count) ⌝ }
+    ensures { λ r. ⌜ (r ≡ true → Nothing ≡ whereIs (ids (now (rows .entry)) width count) id) ⌝ }
+{
+    if count < at {
+        return false;
+    }
+    if is_past(rows, width, count, id, at) {
+        return is_short_of(rows, width, count, id, at);
+    }
+    false
+}
+
+// The row that has this id, as `words::find_row` finds it. The hint is any number: row `at` has the id, or none has it and row `at` is the
+// first above it. A hint that is right takes three looks at most.
 pub fn find_near(rows: &[u64], width: usize, count: usize, id: u64, at: usize) -> Found
     requires { ⌜ (0 < width) × (count * width ≤ length (now rows)) × Ascends (ids (now rows) width count) ⌝ }
     ensures { λ r. ⌜ r ≡ whereIs (ids (now (rows .entry)) width count) id ⌝ }
 {
-    if at < count {
-        if rows[at * width] == id {
-            return Found::At(at);
-        }
+    if stands_at(rows, width, count, id, at) {
+        return Found::At(at);
     }
-    if at <= count {
-        if is_between(rows, width, count, id, at) {
-            return Found::Nothing;
-        }
+    if lies_before(rows, width, count, id, at) {
+        return Found::Nothing;
     }
     words::find_row(rows, width, count, id)
 }
 
-// How many rows from row `at` on are passed before one is not below this id: the next hint of a caller whose ids ascend.
-pub fn pass_below(rows: &[u64], width: usize, count: usize, id: u64, at: usize) -> usize
+// The first row from row `at` on that is not below this id: the hint of a caller whose ids ascend, and whose last hint was `at`.
+pub fn next_hint(rows: &[u64], width: usize, count: usize, id: u64, at: usize) -> usize
     requires { ⌜ (0 < width) × (count * width ≤ length (now rows)) ⌝ }
 {
     let mut i = at;

@@ -90,7 +90,7 @@ fn list_pruned(
     ensures { λ r. ⌜ r ≡ length (prunedIn (now (rows .entry)) h id (part (now (w .entry)) b k)) ⌝ }
     ensures { λ _. ⌜ take s (now (w .exit)) ≡ take s (now (w .entry)) ⌝ }
 {
-    if owned::roots::is_root(rows, h, id) {
+    if owned::roots::is_root(rows, h, id, 0) {
         first[0] = id;
         return 1;
     }

@@ -3,38 +3,31 @@ use Rattle.hints.proofs.near.find_near.Statement.{statement}
 use Rattle.hints.proofs.near.find_near.Tie as tie
 use Rattle.hints.proofs.near.find_near.Reads as reads
 use Rattle.hints.proofs.near.find_near.Lts as lts
-use Rattle.hints.proofs.near.is_between.Reads as is-between-reads
+use Rattle.hints.proofs.near.lies_before.Reads as lies-before-reads
+use Rattle.hints.proofs.near.stands_at.Reads as stands-at-reads
 use Rattle.words.proofs.find_row.Reads as find-row-reads
 
--- src/near.rt:36:17
-mul-if2 : tie.Need-mul-if2
-mul-if2 c = search needs
+-- src/near.rt:63:8
+stands-at-requires : tie.Need-stands-at-requires
+stands-at-requires c κs = search needs
 
--- src/near.rt:36:12
-mul-if2-2 : tie.Need-mul-if2-2
-mul-if2-2 c = search needs
-
--- src/near.rt:36:12
-shared-slice-read-if2 : tie.Need-shared-slice-read-if2
-shared-slice-read-if2 c = search needs
-
--- src/near.rt:37:13
+-- src/near.rt:64:9
 returns : tie.Need-returns
-returns c = search needs
+returns c = c .before .stands-at .ensures (c .if1 .taken)
 
--- src/near.rt:41:12
-is-between-requires : tie.Need-is-between-requires
-is-between-requires c κs = search needs
+-- src/near.rt:66:8
+lies-before-requires : tie.Need-lies-before-requires
+lies-before-requires c κs = search needs
 
--- src/near.rt:42:13
+-- src/near.rt:67:9
 returns-2 : tie.Need-returns-2
-returns-2 c = search needs
+returns-2 c = c .before .lies-before .ensures (c .if2 .taken)
 
--- src/near.rt:45:5
+-- src/near.rt:69:5
 find-row-requires : tie.Need-find-row-requires
 find-row-requires c κs = search needs
 
--- src/near.rt:31:1
+-- src/near.rt:59:1
 returns-3 : tie.Need-returns-3
 returns-3 c = search needs
 
@@ -42,11 +35,9 @@ pub find-near-spec : {M : Type 1} → statement M
 find-near-spec =
     tie.close
     (tie.spec
-    mul-if2
-    mul-if2-2
-    shared-slice-read-if2
+    stands-at-requires
     returns
-    is-between-requires
+    lies-before-requires
     returns-2
     find-row-requires
     returns-3)

@@ -5,8 +5,8 @@ use borrow.Author.Needs.{needs}
 use Rattle.owned.proofs.roots.is_root.Statement.{statement}
 use Rattle.owned.proofs.roots.is_root.Tie as tie
 
-find-row-requires : tie.Need-find-row-requires
-find-row-requires c κs = search needs
+find-near-requires : tie.Need-find-near-requires
+find-near-requires c κs = search needs
 
 enum-known-found : tie.Need-enum-known-found
 enum-known-found c = search needs
@@ -26,4 +26,4 @@ returns-2 c = search root-none
 pub is-root-spec : {M : Type 1} → statement M
 is-root-spec =
     tie.close
-    (tie.spec find-row-requires enum-known-found is-root-row-requires enum-told returns returns-2)
+    (tie.spec find-near-requires enum-known-found is-root-row-requires enum-told returns returns-2)

@@ -12,11 +12,11 @@ use Rattle.owned.proofs.roots.mark_roots.Statement.{statement}
 use Rattle.owned.proofs.roots.mark_roots.Tie as tie
 
 abbrev Inv-loop : tie.InvT-loop
-Inv-loop rows h w₀ b k s i₀ w i =
+Inv-loop rows h w₀ b k s at₀ i₀ w at i =
     (i ≤ k) × (length w ≡ length w₀) × Marked (λ (x : ℕ). tick (rootOf rows h x)) b s i w₀ w
 
 abbrev μ-loop : tie.MeasureT-loop
-μ-loop rows h w₀ b k s i₀ w i = k - i
+μ-loop rows h w₀ b k s at₀ i₀ w at i = k - i
 
 loop-holds : tie.Need-loop-holds Inv-loop μ-loop
 loop-holds c = (search needs, search needs, marked-start (λ (x : ℕ). tick (rootOf (c .before .before .args .rows .now) (c .before .before .args .h) x)) (c .before .before .args .b) (c .before .before .args .s) (c .before .before .args .w .now))
@@ -29,6 +29,9 @@ mul-x c = search needs
 
 slice-read-x : tie.Need-slice-read-x Inv-loop μ-loop
 slice-read-x c = search needs
+
+next-hint-requires : tie.Need-next-hint-requires Inv-loop μ-loop
+next-hint-requires c κs = search needs
 
 root-mark-requires : tie.Need-root-mark-requires Inv-loop μ-loop
 root-mark-requires c κs = search needs
@@ -50,9 +53,9 @@ loop-less c = search needs
 
 loop-again : tie.Need-loop-again Inv-loop μ-loop
 loop-again c =
-    let s = c .before .before .before .before .before .before in
-    let l = c .before .before .before .loop in
-    (search needs, simp length-set (l .inv .1), marked-next (λ (x : ℕ). tick (rootOf (c .before .before .before .before .before .before .args .rows .now) (c .before .before .before .before .before .before .args .h) x)) (c .before .before .before .before .before .before .args .b) (c .before .before .before .before .before .before .args .s) (c .before .before .before .before .before .before .args .w .now) (l .i) (s .args .k) (l .w) (c .root-mark .result) (c .before .before .loop-test .taken) (s .pre .1 .0) (omega (arith, l .inv .1)) (l .inv .2) (c .root-mark .ensures))
+    let s = c .before .before .before .before .before .before .before in
+    let l = c .before .before .before .before .loop in
+    (search needs, simp length-set (l .inv .1), marked-next (λ (x : ℕ). tick (rootOf (s .args .rows .now) (s .args .h) x)) (s .args .b) (s .args .s) (s .args .w .now) (l .i) (s .args .k) (l .w) (c .root-mark .result) (c .before .before .before .loop-test .taken) (s .pre .1 .0) (omega (arith, l .inv .1)) (l .inv .2) (c .root-mark .ensures))
 
 same-length : tie.Need-same-length Inv-loop μ-loop
 same-length c = search needs
@@ -70,6 +73,7 @@ mark-roots-spec =
     add-x
     mul-x
     slice-read-x
+    next-hint-requires
     root-mark-requires
     add-w
     mul-w
