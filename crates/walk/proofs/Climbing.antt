@@ -87,8 +87,8 @@ module _ (rows edges : List ℕ) (n : ℕ) (t : Tabled rows edges n) (a : ℕ) (
           let f : m + length (parentsOfRow rows edges here) ≤ length edges = rw row-is at (reads-fit rows edges n t a la q m (metIn n len k w) r inside) in
           omega (arith, f, parents-size)
 
-      pub climb-asks : (here < n) × (3 * n + 3 * (k + parentsAt rows (here * heldWidth)) ≤ length w) × (m + parentsAt rows (here * heldWidth) ≤ length edges)
-      climb-asks = (below, omega (arith, fits, bare-below), fits)
+      pub climb-asks : (here < n) × (k ≤ m) × (m + parentsAt rows (here * heldWidth) ≤ length edges)
+      climb-asks = (below, bare-below, fits)
 
       pub climb-next : (len′ k′ pc : ℕ) (w′ : List ℕ) → length w′ ≡ length w → pc ≡ parentsAt rows (here * heldWidth) → StartsIn rows n w
           → (metIn n len′ k′ w′ ≡ meetAll (ids rows heldWidth n) (segmentIn rows edges here .parents) (metIn n len k w)) × (len′ ≤ n) × (take n w′ ≡ take n w)

@@ -10,3 +10,4 @@ pub mod Climbing
 pub mod Keeping
 pub mod Sorting
 pub mod Merging
+pub mod Noted

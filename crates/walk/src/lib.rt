@@ -7,6 +7,7 @@ use types::records::RowIndex;
 
 mod climb;
 mod merge;
+mod noting;
 mod once;
 mod reached;
 pub mod starts;
@@ -20,7 +21,7 @@ pub struct Ancestry {
 // The ancestors of the segment of this row, ascending, stand from word 4 n + 4 g on, where g is the number of edge words. Those with a row
 // are listed by a scan of the marks; only ids without a row are sorted, and an accepted layout has none.
 pub fn ancestors_of(rows: &[u64], edges: &[u64], n: usize, row: RowIndex, w: &mut [u64]) -> Ancestry
-    requires { ⌜ Tabled (now rows) (now edges) n × (row .0 < n) × (5 * n + 5 * length (now edges) ≤ length (now w)) ⌝ }
+    requires { ⌜ Tabled (now rows) (now edges) n × (row .0 < n) × (32 * (length (now edges) + n) ≤ length (now w)) ⌝ }
     ensures { λ r. ⌜ Listed (now (rows .entry)) (now (edges .entry)) n (row .0) (4 * n + 4 * length (now (edges .entry))) (now (w .exit)) r ⌝ }
 {
     let g = edges.len();

@@ -13,7 +13,7 @@ use Rattle.walk.proofs.climb.climb.Tie as tie
 
 abbrev Inv-loop : tie.InvT-loop
 Inv-loop rows edges n a w₀ t₀ m₀ q₀ w t m q =
-    (q ≤ t .met) × (t .met ≤ n) × (m ≤ length edges) × (length w ≡ length w₀) × (3 * n + 3 * length edges ≤ length w) × StartsIn rows n w × Reached rows edges n a q m (metIn n (t .met) (t .bare) w)
+    (q ≤ t .met) × (t .met ≤ n) × (m ≤ length edges) × (length w ≡ length w₀) × (32 * (length edges + n) ≤ length w) × StartsIn rows n w × Reached rows edges n a q m (metIn n (t .met) (t .bare) w)
 
 abbrev μ-loop : tie.MeasureT-loop
 μ-loop rows edges n a w₀ t₀ m₀ q₀ w t m q = n - q
@@ -54,25 +54,25 @@ mul-r-2 c = search needs
 slice-read-r : tie.Need-slice-read-r Inv-loop μ-loop
 slice-read-r c = search needs
 
-expand-requires : tie.Need-expand-requires Inv-loop μ-loop
-expand-requires c κs =
+visit-requires : tie.Need-visit-requires Inv-loop μ-loop
+visit-requires c κs =
     let s = c .before .before .before .before .before .before .before .before in
     let l = c .before .before .before .before .loop in
-    let a = climb-asks (s .args .rows .now) (s .args .edges .now) (s .args .n) (s .pre .0 .0) (s .args .a) (s .pre .0 .1) (l .q) (l .t .met) (l .t .bare) (l .m) (l .w) (l .inv .1) (l .inv .4) (l .inv .6) (c .before .before .if1 .taken) in
-    ((s .pre .0 .0, a .0, l .inv .5), (l .inv .1, a .1, l .inv .6 .held))
+    let a = climb-asks (s .args .rows .now) (s .args .edges .now) (s .args .n) (s .pre .0 .0) (s .args .a) (s .pre .0 .1) (l .q) (l .t .met) (l .t .bare) (l .m) (l .w) (l .inv .1) (omega (arith, l .inv .4)) (l .inv .6) (c .before .before .if1 .taken) in
+    ((s .pre .0 .0, a .0, l .inv .5), ((l .inv .1, a .1, a .2, l .inv .6 .held), l .inv .4))
 
 parent-count-requires : tie.Need-parent-count-requires Inv-loop μ-loop
 parent-count-requires c κs =
     let s = c .before .before .before .before .before .before .before .before .before .before .before in
     let l = c .before .before .before .before .before .before .before .loop in
-    let a = climb-asks (s .args .rows .now) (s .args .edges .now) (s .args .n) (s .pre .0 .0) (s .args .a) (s .pre .0 .1) (l .q) (l .t .met) (l .t .bare) (l .m) (l .w) (l .inv .1) (l .inv .4) (l .inv .6) (c .before .before .before .before .before .if1 .taken) in
+    let a = climb-asks (s .args .rows .now) (s .args .edges .now) (s .args .n) (s .pre .0 .0) (s .args .a) (s .pre .0 .1) (l .q) (l .t .met) (l .t .bare) (l .m) (l .w) (l .inv .1) (omega (arith, l .inv .4)) (l .inv .6) (c .before .before .before .before .before .if1 .taken) in
     omega (arith, a .0, s .pre .0 .0 .size)
 
 add-m : tie.Need-add-m Inv-loop μ-loop
 add-m c =
     let s = c .before .before .before .before .before .before .before .before .before .before .before .before in
     let l = c .before .before .before .before .before .before .before .before .loop in
-    let a = climb-asks (s .args .rows .now) (s .args .edges .now) (s .args .n) (s .pre .0 .0) (s .args .a) (s .pre .0 .1) (l .q) (l .t .met) (l .t .bare) (l .m) (l .w) (l .inv .1) (l .inv .4) (l .inv .6) (c .before .before .before .before .before .before .if1 .taken) in
+    let a = climb-asks (s .args .rows .now) (s .args .edges .now) (s .args .n) (s .pre .0 .0) (s .args .a) (s .pre .0 .1) (l .q) (l .t .met) (l .t .bare) (l .m) (l .w) (l .inv .1) (omega (arith, l .inv .4)) (l .inv .6) (c .before .before .before .before .before .before .if1 .taken) in
     omega (arith, a .2, c .parent-count .ensures)
 
 add-q : tie.Need-add-q Inv-loop μ-loop
@@ -85,9 +85,9 @@ loop-again : tie.Need-loop-again Inv-loop μ-loop
 loop-again c =
     let s = c .before .before .before .before .before .before .before .before .before .before .before .before in
     let l = c .before .before .before .before .before .before .before .before .loop in
-    let x = c .before .before .before .expand in
-    let k = x .kept .1 .1 .1 .1 .1 .0 in
-    let e = climb-next (s .args .rows .now) (s .args .edges .now) (s .args .n) (s .pre .0 .0) (s .args .a) (s .pre .0 .1) (l .q) (l .t .met) (l .t .bare) (l .m) (l .w) (l .inv .1) (l .inv .4) (l .inv .6) (c .before .before .before .before .before .before .if1 .taken) (x .result .met) (x .result .bare) (c .parent-count .result) _ k (c .parent-count .ensures) (l .inv .5) (x .ensures) in
+    let x = c .before .before .before .visit in
+    let k = x .kept .1 .1 .1 .1 .1 .1 .0 in
+    let e = climb-next (s .args .rows .now) (s .args .edges .now) (s .args .n) (s .pre .0 .0) (s .args .a) (s .pre .0 .1) (l .q) (l .t .met) (l .t .bare) (l .m) (l .w) (l .inv .1) (omega (arith, l .inv .4)) (l .inv .6) (c .before .before .before .before .before .before .if1 .taken) (x .result .met) (x .result .bare) (c .parent-count .result) _ k (c .parent-count .ensures) (l .inv .5) (x .ensures) in
     (e .0, x .ensures .1, e .1, k ∙ l .inv .3, omega (arith, k, l .inv .4), e .2, e .3)
 
 same-length : tie.Need-same-length Inv-loop μ-loop
@@ -97,7 +97,7 @@ returns : tie.Need-returns Inv-loop μ-loop
 returns c =
     let s = c .before .before .before .before .before .before in
     let l = c .before .before .loop in
-    climb-end (s .args .rows .now) (s .args .edges .now) (s .args .n) (s .pre .0 .0) (s .args .a) (s .pre .0 .1) (l .q) (l .t .met) (l .t .bare) (l .m) (l .w) (l .inv .1) (l .inv .4) (l .inv .6) (c .if1 .left) (l .inv .2)
+    climb-end (s .args .rows .now) (s .args .edges .now) (s .args .n) (s .pre .0 .0) (s .args .a) (s .pre .0 .1) (l .q) (l .t .met) (l .t .bare) (l .m) (l .w) (l .inv .1) (omega (arith, l .inv .4)) (l .inv .6) (c .if1 .left) (l .inv .2)
 
 pub climb-spec : {M : Type 1} → statement M
 climb-spec =
@@ -116,7 +116,7 @@ climb-spec =
     add-r
     mul-r-2
     slice-read-r
-    expand-requires
+    visit-requires
     parent-count-requires
     add-m
     add-q

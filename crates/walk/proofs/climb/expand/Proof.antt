@@ -10,8 +10,11 @@ use Rattle.walk.proofs.climb.expand.Statement.{statement}
 use Rattle.walk.proofs.climb.expand.Tie as tie
 
 -- the stretch of the row lies in the table
-end : (c : tie.After-parent-count) → getD (c .before .before .before .before .before .args .w .now) (c .before .before .before .before .before .args .r) 0 + c .parent-count .result ≤ length (c .before .before .before .before .before .args .edges .now)
-end c = let s = c .before .before .before .before .before in stretch-end (s .args .rows .now) (s .args .edges .now) (s .args .n) (s .pre .0 .0) (s .args .r) (s .pre .0 .1) (s .args .w .now) (s .pre .0 .2) (c .parent-count .result) (c .parent-count .ensures)
+end : (c : tie.After-hints-from) → getD (c .before .before .before .before .before .before .args .w .now) (c .before .before .before .before .before .before .args .r) 0 + c .before .parent-count .result ≤ length (c .before .before .before .before .before .before .args .edges .now)
+end c =
+    let s = c .before .before .before .before .before .before in
+    let k = c .before .parent-count in
+    stretch-end (s .args .rows .now) (s .args .edges .now) (s .args .n) (s .pre .0 .0) (s .args .r) (s .pre .0 .1) (s .args .w .now) (s .pre .0 .2) (k .result) (k .ensures)
 
 mul-from : tie.Need-mul-from
 mul-from c = search needs
@@ -21,6 +24,12 @@ slice-read-from c = search needs
 
 parent-count-requires : tie.Need-parent-count-requires
 parent-count-requires c κs = search needs
+
+hints-from-requires : tie.Need-hints-from-requires
+hints-from-requires c κs = search needs
+
+add-b : tie.Need-add-b
+add-b c = omega (arith, end c, c .hints-from .ensures)
 
 add-meet-parents : tie.Need-add-meet-parents
 add-meet-parents c = omega (arith, end c)
@@ -39,17 +48,18 @@ part-meet-parents-end c = end c
 
 meet-parents-requires : tie.Need-meet-parents-requires
 meet-parents-requires c κs =
-    let s = c .before .before .before .before .before .before .before in
-    let k = c .before .before .parent-count in
-    ((omega (arith, s .pre .0 .0 .size), s .pre .0 .0 .up), (s .pre .1 .0, omega (arith, s .pre .1 .1, stretch-size (s .args .rows .now) (s .args .edges .now) (s .args .n) (s .pre .0 .0) (s .args .r) (s .pre .0 .1) (s .args .w .now) (s .pre .0 .2) (k .result) (k .ensures)), s .pre .1 .2))
+    let s = c .before .before .before .before .before .before .before .before in
+    let k = c .before .before .before .parent-count in
+    let size = stretch-size (s .args .rows .now) (s .args .edges .now) (s .args .n) (s .pre .0 .0) (s .args .r) (s .pre .0 .1) (s .args .w .now) (s .pre .0 .2) (k .result) (k .ensures) in
+    ((omega (arith, s .pre .0 .0 .size), s .pre .0 .0 .up), ((s .pre .1 .0 .0, omega (arith, s .pre .1 .0 .1, size), s .pre .1 .0 .2), omega (arith, size, k .ensures, end (c .before .before), c .before .before .hints-from .ensures, s .pre .1 .1)))
 
 same-length : tie.Need-same-length
 same-length c = search needs
 
 returns : tie.Need-returns
 returns c =
-    let s = c .before .before .before .before .before .before .before .before .before .before in
-    let k = c .before .before .before .before .before .parent-count in
+    let s = c .before .before .before .before .before .before .before .before .before .before .before in
+    let k = c .before .before .before .before .before .before .parent-count in
     let m = c .before .before .meet-parents in
     expanded (s .args .rows .now) (s .args .edges .now) (s .args .n) (s .pre .0 .0) (s .args .r) (s .pre .0 .1) (s .args .w .now) (s .pre .0 .2) (k .result) (k .ensures) (s .args .t .met) (s .args .t .bare) (m .result .met) (m .result .bare) _ _ refl (m .ensures)
 
@@ -60,6 +70,8 @@ expand-spec =
     mul-from
     slice-read-from
     parent-count-requires
+    hints-from-requires
+    add-b
     add-meet-parents
     mul-meet-parents
     sub-meet-parents
