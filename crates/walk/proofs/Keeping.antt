@@ -74,7 +74,7 @@ module _ (l : List ℕ) (rise : (i j : ℕ) → i < j → j < length l → getD 
 
 -- ---- in the work area
 
-first-at : (w : List ℕ) (a m i : ℕ) → i < m → getD (ids (drop a w) 3 m) i 0 ≡ getD w (a + 3 * i) 0
+pub first-at : (w : List ℕ) (a m i : ℕ) → i < m → getD (ids (drop a w) 3 m) i 0 ≡ getD w (a + 3 * i) 0
 first-at w a m i h = ids-at (drop a w) 3 m i h ∙ getD-drop a w (i * 3) 0 ∙ ap (λ (k : ℕ). getD w k 0) (three a i)
   where
     three : (a i : ℕ) → a + i * 3 ≡ a + 3 * i

@@ -11,3 +11,4 @@ pub mod Keeping
 pub mod Sorting
 pub mod Merging
 pub mod Noted
+pub mod Gathered

@@ -5,6 +5,7 @@ ghost use Rattle.tabled.specs.Image.{Tabled};
 ghost use Rattle.walk.specs.Kept.{Listed};
 use types::records::RowIndex;
 
+mod by_digits;
 mod climb;
 mod merge;
 mod noting;
@@ -28,7 +29,7 @@ pub fn ancestors_of(rows: &[u64], edges: &[u64], n: usize, row: RowIndex, w: &mu
     let b = 3 * n + 3 * g;
     climb::prepare(rows, n, g, w);
     let walked = climb::climb(rows, edges, n, row.0, w);
-    let bare = once::list_once(w, 3 * n, walked.bare, b);
+    let bare = once::list_once(w, 3 * n, walked.bare, b, 6 * (n + g));
     let met = reached::list_reached(rows, n, w, b + g);
     merge::merge(w, b + g, met, b, bare, b + g + n);
     Ancestry {

@@ -7,9 +7,6 @@ ghost use lib.ListN.{length, getD, take};
 ghost use Rattle.words.specs.Table.{ids, Ascends};
 ghost use Rattle.rules.specs.Tables.{heldWidth};
 
-// Fewer rows are searched in eight looks at most.
-const FEW: usize = 256;
-
 // From which word on the hints stand, one for each of the g edge words.
 pub fn hints_from(n: usize, g: usize) -> usize
     requires { ⌜ 8 * (n + g) < 18446744073709551616 ⌝ }
@@ -24,7 +21,7 @@ fn are_due(rows: &[u64], n: usize, g: usize, read: usize) -> bool
     requires { ⌜ (n * heldWidth ≤ length (now rows)) × Ascends (ids (now rows) heldWidth n) ⌝ }
     ensures { λ r. ⌜ (r ≡ true → 256 ≤ n) ⌝ }
 {
-    if n < FEW {
+    if n < hints::FEW {
         return false;
     }
     let first = rows[0];
@@ -79,7 +76,7 @@ pub fn note_when_due(
     let g = edges.len();
     if are_due(rows, n, g, read) {
         let b = 6 * (n + g);
-        note(rows, edges, n, &mut w[b..b + 3 * g + FEW]);
+        note(rows, edges, n, &mut w[b..b + 3 * g + hints::FEW]);
         return true;
     }
     false

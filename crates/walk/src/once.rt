@@ -6,6 +6,7 @@ ghost use lib.ListN.{length, getD, set, take, drop};
 ghost use Rattle.words.specs.Part.{part};
 ghost use Rattle.words.specs.Table.{ids};
 ghost use Rattle.walk.specs.Kept.{Kept, Rises, isNew};
+use crate::by_digits;
 
 // Does row i of the rows from word a on have another id than the row before it?
 fn is_new(w: &[u64], a: usize, i: usize) -> bool
@@ -47,10 +48,19 @@ fn keep_once(w: &mut [u64], a: usize, m: usize, b: usize) -> usize
 }
 
 // The ids of the m rows from word a on, in any order, each once, go to word b and on; the answer is how many they are.
-pub fn list_once(w: &mut [u64], a: usize, m: usize, b: usize) -> usize
+fn sort_once(w: &mut [u64], a: usize, m: usize, b: usize) -> usize
     requires { ⌜ (a + 3 * m ≤ b) × (b + m ≤ length (now w)) ⌝ }
     ensures { λ k. ⌜ Kept (part (now (w .exit)) b k) (ids (drop a (now (w .entry))) 3 m) × (k ≤ m) × (take a (now (w .exit)) ≡ take a (now (w .entry))) ⌝ }
 {
     sorts::sort3(&mut w[a..a + 3 * m], m);
     keep_once(w, a, m, b)
+}
+
+// The same in time that grows with m alone, with words from c on to spare.
+pub fn list_once(w: &mut [u64], a: usize, m: usize, b: usize, c: usize) -> usize
+    requires { ⌜ (a + 3 * m ≤ b) × (b + m ≤ c) × (c + 4 * m ≤ length (now w)) ⌝ }
+    ensures { λ k. ⌜ Kept (part (now (w .exit)) b k) (ids (drop a (now (w .entry))) 3 m) × (k ≤ m) × (take a (now (w .exit)) ≡ take a (now (w .entry))) ⌝ }
+{
+    by_digits::order_rows(w, a, m, c);
+    sort_once(w, a, m, b)
 }

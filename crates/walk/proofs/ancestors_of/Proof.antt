@@ -29,6 +29,12 @@ climb-requires c κs =
 mul-list-once : tie.Need-mul-list-once
 mul-list-once c = search needs
 
+add-list-once : tie.Need-add-list-once
+add-list-once c = search needs
+
+mul-list-once-2 : tie.Need-mul-list-once-2
+mul-list-once-2 c = search needs
+
 list-once-requires : tie.Need-list-once-requires
 list-once-requires c κs = search needs
 
@@ -56,8 +62,8 @@ merge-requires c κs =
     let p = c .before .before .before .before .before .before .before .before .before .before .before .before .before .before .before .prepare in
     ((omega (arith, l .ensures .1), omega (arith, o .ensures .1, k .ensures .fits), omega (arith, s .pre .2, l .ensures .1, o .ensures .1, k .ensures .fits, p .kept .1 .1 .1 .0, k .kept .1 .1 .1 .1 .0, o .kept .0, l .kept .1 .1 .0)), merge-asks (s .args .rows .now) (s .args .edges .now) (s .args .n) (s .args .row .0) (s .pre .0) (k .last .1 .1 .1 .1 .0) (k .result) (k .ensures) (3 * s .args .n + 3 * length (s .args .edges .now)) (3 * s .args .n + 3 * length (s .args .edges .now) + length (s .args .edges .now)) (o .result) (l .result) (o .last .0) (l .last .1 .1 .0) (omega arith) (omega (arith, o .ensures .1, k .ensures .fits)) (o .ensures .0) (o .ensures .2) (l .ensures .0) (l .ensures .2))
 
-add-t12 : tie.Need-add-t12
-add-t12 c =
+add-t11 : tie.Need-add-t11
+add-t11 c =
     let s = c .before .before .before .before .before .before .before .before .before .before .before .before .before .before .before .before .before .before .before .before .before .before .before in
     let k = c .before .before .before .before .before .before .before .before .before .before .before .before .before .before .climb in
     let o = c .before .before .before .before .before .before .before .before .before .before .list-once in
@@ -87,6 +93,8 @@ ancestors-of-spec =
     prepare-requires
     climb-requires
     mul-list-once
+    add-list-once
+    mul-list-once-2
     list-once-requires
     add-list-reached
     list-reached-requires
@@ -94,6 +102,6 @@ ancestors-of-spec =
     add-merge-2
     add-merge-3
     merge-requires
-    add-t12
+    add-t11
     same-length
     returns)

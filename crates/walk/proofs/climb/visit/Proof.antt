@@ -23,12 +23,13 @@ note-when-due-requires c κs = search needs
 
 -- src/climb.rt:147:5
 expand-requires : tie.Need-expand-requires
-expand-requires c κs = 
+expand-requires c κs =
     let s = c .before .before .before .before .before .before .before .before .before in
     let k = c .before .before .before .note-when-due in
-    let size = k .kept .1 .1 .1 .1 .1 .0 in
-    ((s .pre .0 .0, s .pre .0 .1, starts-there (s .args .rows .now) (s .args .edges .now) (s .args .n) (s .args .w .now) (k .last .1 .1 .1 .1 .1 .0) (s .args .t .met) (s .args .t .bare) (k .ensures) (omega (arith, s .pre .1 .0 .1, s .pre .1 .0 .2)) (s .pre .1 .0 .0) (s .pre .0 .2)),
-    ((s .pre .1 .0 .0, omega (arith, size, s .pre .1 .0 .1, s .pre .1 .0 .2, s .pre .1 .1), held-there (s .args .rows .now) (s .args .edges .now) (s .args .n) (s .args .w .now) (k .last .1 .1 .1 .1 .1 .0) (s .args .t .met) (s .args .t .bare) (k .ensures) (omega (arith, s .pre .1 .0 .1, s .pre .1 .0 .2)) (s .pre .1 .0 .0) (s .pre .1 .0 .3)), omega (arith, size, s .pre .1 .1)))
+    let size = k .kept .1 .1 .1 .1 .1 .0 in (
+      (s .pre .0 .0, s .pre .0 .1, starts-there (s .args .rows .now) (s .args .edges .now) (s .args .n) (s .args .w .now) (k .last .1 .1 .1 .1 .1 .0) (s .args .t .met) (s .args .t .bare) (k .ensures) (omega (arith, s .pre .1 .0 .1, s .pre .1 .0 .2)) (s .pre .1 .0 .0) (s .pre .0 .2)),
+      ((s .pre .1 .0 .0, omega (arith, size, s .pre .1 .0 .1, s .pre .1 .0 .2, s .pre .1 .1), held-there (s .args .rows .now) (s .args .edges .now) (s .args .n) (s .args .w .now) (k .last .1 .1 .1 .1 .1 .0) (s .args .t .met) (s .args .t .bare) (k .ensures) (omega (arith, s .pre .1 .0 .1, s .pre .1 .0 .2)) (s .pre .1 .0 .0) (s .pre .1 .0 .3)), omega (arith, size, s .pre .1 .1)),
+    )
 
 -- src/climb.rt:129:1
 same-length : tie.Need-same-length
@@ -36,7 +37,7 @@ same-length c = search needs
 
 -- src/climb.rt:129:1
 returns : tie.Need-returns
-returns c = 
+returns c =
     let s = c .before .before .before .before .before .before .before .before .before .before .before .before in
     let k = c .before .before .before .before .before .before .note-when-due in
     let x = c .before .before .expand in

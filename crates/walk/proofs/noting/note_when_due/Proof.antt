@@ -65,7 +65,7 @@ same-length c = search needs
 
 -- src/noting.rt:83:9
 returns-2 : tie.Need-returns-2
-returns-2 c = 
+returns-2 c =
     let s = c .before .before .before .before .before .before .before .before .before .before in
     let b = 6 * (s .args .n + length (s .args .edges .now)) in
     let k = c .before .before .note in

@@ -1,66 +1,30 @@
--- `list_once` meets its contract: sorted rows rise, and they have the same ids.
--- Assumes nothing.
-use Prim.Native.Nat.{_+_, _*_, _≤_}
-use native.Mathlib.Omega.{arith}
-use lib.ListN.{length}
-use Rattle.walk.proofs.Sorting.{sorted-length, sorted-front, sorted-rises, sorted-kept}
 use borrow.Author.Needs.{needs}
+use mathlib.Core.Path.{_∙_}
 use Rattle.walk.proofs.once.list_once.Statement.{statement}
 use Rattle.walk.proofs.once.list_once.Tie as tie
+use Rattle.walk.proofs.once.list_once.Reads as reads
+use Rattle.walk.proofs.once.list_once.Lts as lts
+use Rattle.walk.proofs.by_digits.order_rows.Reads as order-rows-reads
+use Rattle.walk.proofs.once.sort_once.Reads as sort-once-reads
 
-mul-sort3 : tie.Need-mul-sort3
-mul-sort3 c = search needs
+-- src/once.rt:64:5
+order-rows-requires : tie.Need-order-rows-requires
+order-rows-requires c κs = search needs
 
-add-sort3 : tie.Need-add-sort3
-add-sort3 c = search needs
+-- src/once.rt:65:5
+sort-once-requires : tie.Need-sort-once-requires
+sort-once-requires c κs = search needs
 
-mul-sort3-2 : tie.Need-mul-sort3-2
-mul-sort3-2 c = search needs
-
-sub-sort3 : tie.Need-sub-sort3
-sub-sort3 c = search needs
-
-part-sort3-start : tie.Need-part-sort3-start
-part-sort3-start c = search needs
-
-part-sort3-end : tie.Need-part-sort3-end
-part-sort3-end c = search needs
-
-sort3-requires : tie.Need-sort3-requires
-sort3-requires c κs = search needs
-
-keep-once-requires : tie.Need-keep-once-requires
-keep-once-requires c κs =
-    let s = c .before .before .before .before .before .before in
-    let k = c .before .before .before .sort3 in
-    let h : s .args .a + 3 * s .args .m ≤ length (s .args .w .now) = omega (arith, s .pre .0, s .pre .1) in
-    (s .pre .0, omega (arith, s .pre .1, sorted-length (s .args .w .now) (s .args .a) (s .args .m) (k .last .0) h (k .kept .0) (k .ensures)), sorted-rises (s .args .w .now) (s .args .a) (s .args .m) (k .last .0) h (k .kept .0) (k .ensures))
-
+-- src/once.rt:60:1
 same-length : tie.Need-same-length
 same-length c = search needs
 
+-- src/once.rt:60:1
 returns : tie.Need-returns
-returns c =
-    let s = c .before .before .before .before .before .before .before .before .before in
-    let k = c .before .before .before .before .before .before .sort3 in
-    let o = c .before .before .keep-once in
-    let h : s .args .a + 3 * s .args .m ≤ length (s .args .w .now) = omega (arith, s .pre .0, s .pre .1) in (
-      sorted-kept (s .args .w .now) (s .args .a) (s .args .m) (k .last .0) h (k .kept .0) (k .ensures) _ (o .ensures .0),
-      o .ensures .1,
-      sorted-front (s .args .w .now) (s .args .a) (s .args .m) (k .last .0) h (k .kept .0) (k .ensures) _ (s .args .b) (omega (arith, s .pre .0)) (o .ensures .2),
-    )
+returns c = 
+    let o = c .before .before .before .before .before .before .order-rows in
+    let k = c .before .before .sort-once in
+    (record { up = k .ensures .0 .up; same = λ z. k .ensures .0 .same z ∙ o .ensures .1 z }, k .ensures .1, k .ensures .2 ∙ o .ensures .0)
 
 pub list-once-spec : {M : Type 1} → statement M
-list-once-spec =
-    tie.close
-    (tie.spec
-    mul-sort3
-    add-sort3
-    mul-sort3-2
-    sub-sort3
-    part-sort3-start
-    part-sort3-end
-    sort3-requires
-    keep-once-requires
-    same-length
-    returns)
+list-once-spec = tie.close (tie.spec order-rows-requires sort-once-requires same-length returns)
