@@ -1,2 +1,3 @@
 pub mod Beside
-pub mod Own
+pub mod Keeping
+pub mod Whole

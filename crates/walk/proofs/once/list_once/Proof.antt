@@ -21,7 +21,7 @@ same-length c = search needs
 
 -- src/once.rt:60:1
 returns : tie.Need-returns
-returns c = 
+returns c =
     let o = c .before .before .before .before .before .before .order-rows in
     let k = c .before .before .sort-once in
     (record { up = k .ensures .0 .up; same = λ z. k .ensures .0 .same z ∙ o .ensures .1 z }, k .ensures .1, k .ensures .2 ∙ o .ensures .0)
