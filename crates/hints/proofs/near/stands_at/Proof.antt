@@ -1,3 +1,5 @@
+-- `stands_at` meets its contract: by the words of the row.
+-- Assumes nothing.
 use borrow.Author.Needs.{needs}
 use borrow.Author.Tests.{eqb-true, ltb-true}
 use Rattle.lists.proofs.SetLaws.{never}
@@ -6,26 +8,19 @@ use Rattle.words.proofs.TableLaws.{word-in}
 use Rattle.hints.proofs.Beside.{stands}
 use Rattle.hints.proofs.near.stands_at.Statement.{statement}
 use Rattle.hints.proofs.near.stands_at.Tie as tie
-use Rattle.hints.proofs.near.stands_at.Reads as reads
-use Rattle.hints.proofs.near.stands_at.Lts as lts
 
--- src/near.rt:16:21
 mul-result : tie.Need-mul-result
 mul-result c = omega (arith, word-in (c .before .args .at) (c .before .args .count) (c .before .args .width) _ (c .if1 .taken) (c .before .pre .0) (c .before .pre .1))
 
--- src/near.rt:16:16
 mul-result-2 : tie.Need-mul-result-2
 mul-result-2 c = omega (arith, word-in (c .before .args .at) (c .before .args .count) (c .before .args .width) _ (c .if1 .taken) (c .before .pre .0) (c .before .pre .1))
 
--- src/near.rt:16:16
 shared-slice-read-result : tie.Need-shared-slice-read-result
 shared-slice-read-result c = word-in (c .before .before .args .at) (c .before .before .args .count) (c .before .before .args .width) _ (c .before .if1 .taken) (c .before .before .pre .0) (c .before .before .pre .1)
 
--- src/near.rt:16:9
 returns : tie.Need-returns
 returns c = λ e. stands (c .before .before .args .rows .now) (c .before .before .args .width) (c .before .before .args .count) (c .before .before .args .id) (c .before .before .pre .2) (c .before .before .args .at) (c .before .if1 .taken) (eqb-true _ _ e)
 
--- src/near.rt:11:1
 returns-2 : tie.Need-returns-2
 returns-2 c = never
 

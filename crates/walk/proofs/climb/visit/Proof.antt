@@ -1,27 +1,20 @@
+-- `visit` meets its contract: noting hints leaves what was met, so that it is `expand` that is owed (`visited`).
+-- Assumes nothing.
 use borrow.Author.Needs.{needs}
 use native.Mathlib.Omega.{arith}
 use Rattle.walk.proofs.Noted.{starts-there, held-there, visited}
 use Rattle.walk.proofs.climb.visit.Statement.{statement}
 use Rattle.walk.proofs.climb.visit.Tie as tie
-use Rattle.walk.proofs.climb.visit.Reads as reads
-use Rattle.walk.proofs.climb.visit.Lts as lts
-use Rattle.walk.proofs.climb.expand.Reads as expand-reads
-use Rattle.walk.proofs.climb.parent_count.Reads as parent-count-reads
-use Rattle.walk.proofs.noting.note_when_due.Reads as note-when-due-reads
 
--- src/climb.rt:145:22
 parent-count-requires : tie.Need-parent-count-requires
 parent-count-requires c κs = search needs
 
--- src/climb.rt:145:15
 add-all : tie.Need-add-all
 add-all c = search needs
 
--- src/climb.rt:146:9
 note-when-due-requires : tie.Need-note-when-due-requires
 note-when-due-requires c κs = search needs
 
--- src/climb.rt:147:5
 expand-requires : tie.Need-expand-requires
 expand-requires c κs =
     let s = c .before .before .before .before .before .before .before .before .before in
@@ -31,11 +24,9 @@ expand-requires c κs =
       ((s .pre .1 .0 .0, omega (arith, size, s .pre .1 .0 .1, s .pre .1 .0 .2, s .pre .1 .1), held-there (s .args .rows .now) (s .args .edges .now) (s .args .n) (s .args .w .now) (k .last .1 .1 .1 .1 .1 .0) (s .args .t .met) (s .args .t .bare) (k .ensures) (omega (arith, s .pre .1 .0 .1, s .pre .1 .0 .2)) (s .pre .1 .0 .0) (s .pre .1 .0 .3)), omega (arith, size, s .pre .1 .1)),
     )
 
--- src/climb.rt:129:1
 same-length : tie.Need-same-length
 same-length c = search needs
 
--- src/climb.rt:129:1
 returns : tie.Need-returns
 returns c =
     let s = c .before .before .before .before .before .before .before .before .before .before .before .before in

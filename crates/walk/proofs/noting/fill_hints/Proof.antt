@@ -1,3 +1,5 @@
+-- `fill_hints` meets its contract: places are below g, and no place is written over.
+-- Assumes nothing.
 use borrow.Author.Needs.{needs}
 use native.Mathlib.Omega.{arith}
 use mathlib.Core.Path.{_≡_, refl}
@@ -6,9 +8,6 @@ use lib.ListN.{length, getD, length-set}
 use lib.Seq.{getD-set-other}
 use Rattle.walk.proofs.noting.fill_hints.Statement.{statement}
 use Rattle.walk.proofs.noting.fill_hints.Tie as tie
-use Rattle.walk.proofs.noting.fill_hints.Reads as reads
-use Rattle.walk.proofs.noting.fill_hints.Lts as lts
-use Rattle.hints.proofs.near.next_hint.Reads as next-hint-reads
 
 abbrev Inv-loop : tie.InvT-loop
 Inv-loop rows n g v₀ at₀ i₀ v at i = (length v ≡ length v₀) × ((j : ℕ) → j < g → getD v (g + j) 0 < g)
@@ -16,68 +15,52 @@ Inv-loop rows n g v₀ at₀ i₀ v at i = (length v ≡ length v₀) × ((j : �
 abbrev μ-loop : tie.MeasureT-loop
 μ-loop rows n g v₀ at₀ i₀ v at i = g - i
 
--- src/noting.rt:45:5
 loop-holds : tie.Need-loop-holds Inv-loop μ-loop
 loop-holds c = search needs
 
--- src/noting.rt:46:19
 add-p : tie.Need-add-p Inv-loop μ-loop
 add-p c = search needs
 
--- src/noting.rt:46:17
 mul-p : tie.Need-mul-p Inv-loop μ-loop
 mul-p c = search needs
 
--- src/noting.rt:46:17
 slice-read-p : tie.Need-slice-read-p Inv-loop μ-loop
 slice-read-p c = search needs
 
--- src/noting.rt:47:59
 mul-next-hint : tie.Need-mul-next-hint Inv-loop μ-loop
 mul-next-hint c = omega (arith, c .before .before .loop .inv .1 (c .before .before .loop .i) (c .before .loop-test .taken))
 
--- src/noting.rt:47:59
 slice-read-next-hint : tie.Need-slice-read-next-hint Inv-loop μ-loop
 slice-read-next-hint c = omega (arith, c .before .before .before .loop .inv .1 (c .before .before .before .loop .i) (c .before .before .loop-test .taken), c .before .before .before .loop .inv .0)
 
--- src/noting.rt:47:9
 next-hint-requires : tie.Need-next-hint-requires Inv-loop μ-loop
 next-hint-requires c κs = search needs
 
--- src/noting.rt:48:11
 mul-v : tie.Need-mul-v Inv-loop μ-loop
 mul-v c = search needs
 
--- src/noting.rt:48:11
 add-v : tie.Need-add-v Inv-loop μ-loop
 add-v c = omega (arith, c .before .before .before .before .loop .inv .1 (c .before .before .before .before .loop .i) (c .before .before .before .loop-test .taken), c .before .before .before .before .loop .inv .0)
 
--- src/noting.rt:48:9
 mul-v-2 : tie.Need-mul-v-2 Inv-loop μ-loop
 mul-v-2 c = omega (arith, c .before .before .before .before .loop .inv .1 (c .before .before .before .before .loop .i) (c .before .before .before .loop-test .taken), c .before .before .before .before .loop .inv .0)
 
--- src/noting.rt:48:9
 slice-write-v : tie.Need-slice-write-v Inv-loop μ-loop
 slice-write-v c = omega (arith, c .before .before .before .before .loop .inv .1 (c .before .before .before .before .loop .i) (c .before .before .before .loop-test .taken), c .before .before .before .before .loop .inv .0)
 
--- src/noting.rt:49:9
 add-i : tie.Need-add-i Inv-loop μ-loop
 add-i c = search needs
 
--- src/noting.rt:45:5
 loop-less : tie.Need-loop-less Inv-loop μ-loop
 loop-less c = search needs
 
--- src/noting.rt:45:5
 loop-again : tie.Need-loop-again Inv-loop μ-loop
 loop-again c = let l = c .before .before .before .before .loop in
     (simp length-set (l .inv .0), λ j q. omega (arith, l .inv .1 j q, getD-set-other (l .v) (2 * c .before .before .before .before .before .before .before .args .g + getD (l .v) (c .before .before .before .before .before .before .before .args .g + l .i) 0) (c .before .before .before .before .before .before .before .args .g + j) (c .next-hint .result) 0 (λ z. omega arith)))
 
--- src/noting.rt:39:1
 same-length : tie.Need-same-length Inv-loop μ-loop
 same-length c = search needs
 
--- src/noting.rt:39:1
 returns : tie.Need-returns Inv-loop μ-loop
 returns c = search needs
 

@@ -1,31 +1,23 @@
+-- `note` meets its contract: `order_places` leaves places below g (`places-below`).
+-- Assumes nothing.
 use borrow.Author.Needs.{needs}
 use native.Mathlib.Omega.{arith}
 use Rattle.walk.proofs.Noted.{places-below}
 use Rattle.walk.proofs.noting.note.Statement.{statement}
 use Rattle.walk.proofs.noting.note.Tie as tie
-use Rattle.walk.proofs.noting.note.Reads as reads
-use Rattle.walk.proofs.noting.note.Lts as lts
-use Rattle.hints.proofs.digits.order_places.Reads as order-places-reads
-use Rattle.walk.proofs.noting.fill_hints.Reads as fill-hints-reads
-use Rattle.words.proofs.copy_into.Reads as copy-into-reads
 
--- src/noting.rt:58:5
 copy-into-requires : tie.Need-copy-into-requires
 copy-into-requires c κs = search needs
 
--- src/noting.rt:59:5
 order-places-requires : tie.Need-order-places-requires
 order-places-requires c κs = search needs
 
--- src/noting.rt:60:5
 fill-hints-requires : tie.Need-fill-hints-requires
 fill-hints-requires c κs = ((c .before .before .before .before .before .before .before .before .before .before .before .before .pre .0, omega (arith, c .before .before .before .order-places .kept .0, c .before .before .before .before .before .before .before .copy-into .kept .0, c .before .before .before .before .before .before .before .before .before .before .before .before .pre .1)), places-below _ _ (c .before .before .before .order-places .ensures .1))
 
--- src/noting.rt:54:1
 same-length : tie.Need-same-length
 same-length c = search needs
 
--- src/noting.rt:54:1
 returns : tie.Need-returns
 returns c = search needs
 

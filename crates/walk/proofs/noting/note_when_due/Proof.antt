@@ -1,3 +1,5 @@
+-- `note_when_due` meets its contract: hints go behind the walk's words, which stay.
+-- Assumes nothing.
 use borrow.Author.Needs.{needs}
 use mathlib.Core.Path.{refl}
 use Prim.Native.Nat.{_+_, _*_}
@@ -6,64 +8,46 @@ use native.Mathlib.Omega.{arith}
 use Rattle.words.proofs.PartLaws.{loan}
 use Rattle.walk.proofs.noting.note_when_due.Statement.{statement}
 use Rattle.walk.proofs.noting.note_when_due.Tie as tie
-use Rattle.walk.proofs.noting.note_when_due.Reads as reads
-use Rattle.walk.proofs.noting.note_when_due.Lts as lts
-use Rattle.walk.proofs.noting.are_due.Reads as are-due-reads
-use Rattle.walk.proofs.noting.note.Reads as note-reads
 
--- src/noting.rt:77:9
 returns : tie.Need-returns
 returns c = search needs
 
--- src/noting.rt:80:8
 are-due-requires : tie.Need-are-due-requires
 are-due-requires c κs = search needs
 
--- src/noting.rt:81:22
 add-b : tie.Need-add-b
 add-b c = search needs
 
--- src/noting.rt:81:17
 mul-b : tie.Need-mul-b
 mul-b c = search needs
 
--- src/noting.rt:82:44
 mul-note : tie.Need-mul-note
 mul-note c = search needs
 
--- src/noting.rt:82:40
 add-note : tie.Need-add-note
 add-note c = search needs
 
--- src/noting.rt:82:40
 add-note-2 : tie.Need-add-note-2
 add-note-2 c = search needs
 
--- src/noting.rt:82:30
 mul-note-2 : tie.Need-mul-note-2
 mul-note-2 c = search needs
 
--- src/noting.rt:82:30
 sub-note : tie.Need-sub-note
 sub-note c = search needs
 
--- src/noting.rt:82:30
 part-note-start : tie.Need-part-note-start
 part-note-start c = search needs
 
--- src/noting.rt:82:30
 part-note-end : tie.Need-part-note-end
 part-note-end c = omega (arith, c .before .are-due .ensures (c .if2 .taken), c .before .before .before .before .before .before .pre .1)
 
--- src/noting.rt:82:9
 note-requires : tie.Need-note-requires
 note-requires c κs = search needs
 
--- src/noting.rt:83:9
 same-length : tie.Need-same-length
 same-length c = search needs
 
--- src/noting.rt:83:9
 returns-2 : tie.Need-returns-2
 returns-2 c =
     let s = c .before .before .before .before .before .before .before .before .before .before in
@@ -72,7 +56,6 @@ returns-2 c =
     let p = loan (s .args .w .now) b (b + 3 * length (s .args .edges .now) + 256) (3 * length (s .args .edges .now) + 256) (k .last .1 .1 .1 .0) (omega arith) (omega (arith, c .before .before .before .before .before .are-due .ensures (c .before .before .before .before .if2 .taken), s .pre .1)) (k .kept .1 .1 .1 .0) in
     p .front b (omega arith)
 
--- src/noting.rt:64:1
 returns-3 : tie.Need-returns-3
 returns-3 c = search needs
 
