@@ -69,16 +69,48 @@ pub fn find_near(rows: &[u64], width: usize, count: usize, id: u64, at: usize) -
     words::find_row(rows, width, count, id)
 }
 
-// The first row from row `at` on that is not below this id: the hint of a caller whose ids ascend, and whose last hint was `at`.
+// Of the rows from `from` up to `to`, the first that is not below this id, by halving.
+fn halve(rows: &[u64], width: usize, from: usize, to: usize, id: u64) -> usize
+    requires { ⌜ (0 < width) × (to * width ≤ length (now rows)) ⌝ }
+{
+    let mut lo = from;
+    let mut hi = to;
+    while lo < hi {
+        let mid = lo + (hi - lo) / 2;
+        if rows[mid * width] < id {
+            lo = mid + 1;
+        } else {
+            hi = mid;
+        }
+    }
+    lo
+}
+
+// The row to look at next, where rows from `at` up to `lo` were passed: as many again, or the end.
+fn ahead(at: usize, lo: usize, count: usize) -> usize
+    requires { ⌜ (at ≤ lo) × (lo ≤ count) ⌝ }
+    ensures { λ r. ⌜ (lo ≤ r) × (r ≤ count) ⌝ }
+{
+    let far = lo - at;
+    if far < count - lo {
+        return lo + far;
+    }
+    count
+}
+
+// The first row from row `at` on that is not below this id: the hint of a caller whose ids ascend, and whose last hint was `at`. It goes ahead by
+// strides that double, so that many ids take a few looks each, and few ids do not take a look at every row.
 pub fn next_hint(rows: &[u64], width: usize, count: usize, id: u64, at: usize) -> usize
     requires { ⌜ (0 < width) × (count * width ≤ length (now rows)) ⌝ }
 {
-    let mut i = at;
-    while i < count {
-        if id <= rows[i * width] {
-            return i;
+    let mut lo = at;
+    let mut hi = at;
+    while hi < count {
+        if id <= rows[hi * width] {
+            return halve(rows, width, lo, hi, id);
         }
-        i += 1;
+        lo = hi + 1;
+        hi = ahead(at, lo, count);
     }
-    i
+    halve(rows, width, lo, count, id)
 }
