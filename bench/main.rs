@@ -129,7 +129,8 @@ impl Bench {
         let held = wire::written(&snapshot);
         let (h, g) = (held.rows.len() / HELD, held.links.len());
         let ids: Vec<u64> = held.rows.chunks_exact(HELD).map(|r| r[0]).collect();
-        let last = *ids.last().unwrap();
+        // the row that came last, whatever its id: under scattered ids too it is the one with most ancestors, but in trees and splits
+        let last = c.layout.segments.last().unwrap().id;
         let owned: BTreeSet<SegmentId> = ids.iter().copied().map(SegmentId).collect();
         let mut l = Loan::new(self.fence);
         l.read("held rows", &held.rows);

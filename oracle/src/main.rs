@@ -1,7 +1,7 @@
-//! oracle [COUNT | SECONDSs] [SEED] [small] [pages] [story=N] [listing=N] [sample=SEED]
+//! oracle [COUNT | SECONDSs] [SEED] [small] [gaps=N] [pages] [story=N] [listing=N] [sample=SEED]
 //!
 //! Plays stories until COUNT answers were compared or SECONDS have passed, and prints how often each answer was met. `small` runs all
-//! small layouts first; `pages` lends every area between pages that may not be touched; `story` plays one story alone;
+//! small layouts first, `gaps` that many big layouts under ids with gaps; `pages` lends every area between pages that may not be touched; `story` plays one story alone;
 //! `listing` runs the listing program (its command stands in THRESHPETAL_LISTING) on that many inputs instead, text against text;
 //! `sample` prints the calls that crates/replay replays, with what is expected of each, and compares them on the way.
 
@@ -21,6 +21,7 @@ struct Wish {
     time: Option<Duration>,
     seed: u64,
     small: bool,
+    gaps: u64,
     pages: bool,
     story: Option<u64>,
     listing: Option<u64>,
@@ -28,11 +29,13 @@ struct Wish {
 }
 
 fn wish() -> Wish {
-    let mut w = Wish { answers: 60_000, time: None, seed: 1, small: false, pages: false, story: None, listing: None, sample: None };
+    let mut w = Wish { answers: 60_000, time: None, seed: 1, small: false, gaps: 0, pages: false, story: None, listing: None, sample: None };
     let mut numbers = 0;
     for a in std::env::args().skip(1) {
         if a == "small" {
             w.small = true;
+        } else if let Some(n) = a.strip_prefix("gaps=") {
+            w.gaps = n.parse().unwrap_or(0);
         } else if a == "pages" {
             w.pages = true;
         } else if let Some(n) = a.strip_prefix("story=") {
@@ -53,7 +56,7 @@ fn wish() -> Wish {
             }
             numbers += 1;
         } else {
-            eprintln!("usage: oracle [COUNT | SECONDSs] [SEED] [small] [pages] [story=N] [listing=N] [sample=SEED]");
+            eprintln!("usage: oracle [COUNT | SECONDSs] [SEED] [small] [gaps=N] [pages] [story=N] [listing=N] [sample=SEED]");
             std::process::exit(2);
         }
     }
@@ -134,6 +137,38 @@ fn big(rng: &mut Rng, run: &mut Run) {
     let c = update_call(rng, &held, &l, Limits::DEFAULT, false);
     let e = run.ask(Call::Update(c));
     held.take(&e);
+}
+
+/// A big layout under ids with gaps, held and asked about; then the same tables with other ids in place of some edges, most of which have no
+/// row. No judge accepts those, and a query has to answer over them all the same.
+fn apart(rng: &mut Rng, run: &mut Run) {
+    let n = *rng.pick(&[256, 257, 300, 1000, 4096]);
+    let l = rng.pick(&shapes::SHAPES).1(n);
+    let l = match rng.below(3) {
+        0 => shapes::scattered(l),
+        1 => shapes::renumbered(l, |x| 3 * x + x % 2),
+        _ => shapes::renumbered(l, |x| (x % 7) << 40 | x << 9),
+    };
+    let last = l.segments.last().map_or(0, |s| s.id);
+    let mut held = Holding::new(1);
+    let c = update_call(rng, &held, &l, Limits::DEFAULT, false);
+    let e = run.ask(Call::Update(c));
+    held.take(&e);
+    for _ in 0..6 {
+        let mut c = order_call(rng, &held);
+        if rng.one_in(2) {
+            c.segment = last;
+        }
+        run.ask(Call::Order(c.clone()));
+        let share = 1 + rng.below(4);
+        for e in &mut c.edges {
+            if rng.one_in(share) {
+                *e = if rng.one_in(8) { rng.next() } else { e.wrapping_add(1) };
+            }
+        }
+        c.origin = None;
+        run.ask(Call::Order(c));
+    }
 }
 
 /// Default limits of edges and size, which small layouts never meet.
@@ -289,6 +324,15 @@ fn main() {
         if run.broken() {
             report(&mut run, w.seed, "pairs of small layouts");
         }
+    }
+    for n in 0..w.gaps {
+        apart(&mut Rng::of_story(w.seed, n), &mut run);
+        if run.broken() {
+            report(&mut run, w.seed, &format!("layout {n} with gaps"));
+        }
+    }
+    if w.gaps > 0 {
+        println!("{} big layouts under ids with gaps: {} answers", w.gaps, run.answers);
     }
     let first = w.story.unwrap_or(0);
     let mut n = first;

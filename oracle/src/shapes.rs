@@ -163,13 +163,17 @@ pub fn one_chain(n: usize) -> Layout {
     done(l, n)
 }
 
-/// The same layout under ids that have no order and wide gaps: a bijection of 64 bits, so that rows, lists and placements come in no order too.
-pub fn scattered(mut l: Layout) -> Layout {
-    let id = |x: u64| Rng::new(x).next();
+/// The same layout under other ids.
+pub fn renumbered(mut l: Layout, id: impl Fn(u64) -> u64) -> Layout {
     for s in &mut l.segments {
         s.id = id(s.id);
         s.parents.iter_mut().chain(&mut s.children).for_each(|x| *x = id(*x));
     }
     l.places.iter_mut().for_each(|p| p.id = id(p.id));
     l
+}
+
+/// Under ids that have no order and wide gaps: a bijection of 64 bits, so that rows, lists and placements come in no order too.
+pub fn scattered(l: Layout) -> Layout {
+    renumbered(l, |x| Rng::new(x).next())
 }

@@ -6,12 +6,13 @@ use mathlib.Core.Path.{_≡_, refl, sym, ap, _∙_}
 use mathlib.Core.Bool.{Bool, true, false, not}
 use mathlib.Core.List.{List}
 use native.Mathlib.Omega.{arith}
-use borrow.Author.Tests.{eq-eqb, ne-eqb, eqb-true, eqb-false}
-use lib.Dec.{eqb}
+use borrow.Author.Tests.{eq-eqb, ne-eqb, eqb-true, eqb-false, ltb-true}
+use lib.Dec.{eqb, ltb}
 use Rattle.lists.proofs.Cases.{one-left}
 use Rattle.rules.specs.Tables.{parentsAt, childrenAt, edgesFrom}
 use Rattle.rules.specs.Shape.{wrongCounts}
 use Rattle.shape.proofs.Scan.{none-left}
+use Rattle.shape.proofs.Whole.{under}
 
 -- two tests that hold together
 eqb-same : (a b c d : ℕ) → (a ≡ b → c ≡ d) → (c ≡ d → a ≡ b) → eqb a b ≡ eqb c d
@@ -35,14 +36,13 @@ module _ (width : ℕ) (rows : List ℕ) (n i len left : ℕ) (rest : edgesFrom 
     counts-open : edgesFrom width rows n 0 + left ≡ parentsAt rows (i * width) + childrenAt rows (i * width) + edgesFrom width rows (n - (i + 1)) (i + 1) + len
     counts-open = rw (one-left n i below) at rest
 
-    pub counts-parents : left < parentsAt rows (i * width) → true ≡ wrongCounts width rows n len
-    unfolding wrongCounts
-    counts-parents h = rw (ne-eqb (edgesFrom width rows n 0) len (λ e. omega (arith, counts-open, e)))
+    -- x is what a test said of the row's counts
+    module _ (x : Bool) (said : x ≡ ltb left (parentsAt rows (i * width) + childrenAt rows (i * width))) where
+      pub counts-over : x ≡ true → true ≡ wrongCounts width rows n len
+      unfolding wrongCounts
+      counts-over told =
+          let h : left < parentsAt rows (i * width) + childrenAt rows (i * width) = ltb-true _ _ (sym said ∙ told) in
+          rw (ne-eqb (edgesFrom width rows n 0) len (λ e. omega (arith, counts-open, e)))
 
-    pub counts-children : left - parentsAt rows (i * width) < childrenAt rows (i * width) → true ≡ wrongCounts width rows n len
-    unfolding wrongCounts
-    counts-children h = rw (ne-eqb (edgesFrom width rows n 0) len (λ e. omega (arith, counts-open, e)))
-
-    pub counts-next : parentsAt rows (i * width) ≤ left → childrenAt rows (i * width) ≤ left - parentsAt rows (i * width)
-        → edgesFrom width rows n 0 + (left - parentsAt rows (i * width) - childrenAt rows (i * width)) ≡ edgesFrom width rows (n - (i + 1)) (i + 1) + len
-    counts-next h k = omega (arith, counts-open)
+      pub counts-next : x ≡ false → edgesFrom width rows n 0 + (left - parentsAt rows (i * width) - childrenAt rows (i * width)) ≡ edgesFrom width rows (n - (i + 1)) (i + 1) + len
+      counts-next told = omega (arith, counts-open, under left (parentsAt rows (i * width)) (childrenAt rows (i * width)) x said told)

@@ -1,6 +1,6 @@
 pub mod Counts
 pub mod Enough
-pub mod Fields
 pub mod Good
+pub mod Next
 pub mod Scan
 pub mod Whole

@@ -1,7 +1,7 @@
 -- Comparisons of whole numbers that may be too large for a machine word, each by one of numbers that are not: an area is divided by the width
 -- of its rows, and what is needed is taken from what is left. Assumes nothing.
 use Prim.Native.Nat.{ℕ, _+_, _-_, _*_, _/_, _≤_, _<_}
-use mathlib.Core.Path.{_≡_, sym, refl, ap, _∙_}
+use mathlib.Core.Path.{_≡_, sym, refl, _∙_}
 use mathlib.Core.Bool.{Bool, true, false, not, _||_}
 use mathlib.Core.Logic.{⊎-elim}
 use native.Mathlib.Omega.{arith}
@@ -23,9 +23,6 @@ zero-hit a rest h = rw (ne-eqb a 0 h)
 
 pub zero-miss : (a : ℕ) (v rest : Bool) → a ≡ 0 → v ≡ rest → v ≡ not (eqb a 0) || rest
 zero-miss a v rest h e = rw (eq-eqb a 0 h, e)
-
-pub not-same : (x t : Bool) → x ≡ t → not x ≡ not t
-not-same x t e = ap not e
 
 -- two comparisons that hold together
 lt-same : (a b c d : ℕ) → (a < b → c < d) → (c < d → a < b) → ltb a b ≡ ltb c d
@@ -59,6 +56,25 @@ pairs-miss area k v rest q e = lt-miss area (2 * k) v rest (omega arith) e
 
 pub pairs-same : (area k : ℕ) → ltb (area / 2) k ≡ ltb area (2 * k)
 pairs-same area k = lt-same (area / 2) k area (2 * k) (λ h. omega arith) (λ h. omega arith)
+
+-- ---- two counts, which are taken one after the other from what is left
+
+pub over-first : (left a b : ℕ) → left < a → true ≡ ltb left (a + b)
+over-first left a b h = sym (lt-ltb left (a + b) (omega arith))
+
+pub over-second : (left a b : ℕ) → a ≤ left → ltb (left - a) b ≡ ltb left (a + b)
+over-second left a b h = lt-same (left - a) b left (a + b) (λ q. omega arith) (λ q. omega arith)
+
+-- x is what such a test said
+module _ (left a b : ℕ) (x : Bool) (said : x ≡ ltb left (a + b)) (told : x ≡ false) where
+  pub under : a + b ≤ left
+  under = ltb-false left (a + b) (sym said ∙ told)
+
+  pub under-first : a ≤ left
+  under-first = omega (arith, under)
+
+  pub under-second : b ≤ left - a
+  under-second = omega (arith, under)
 
 -- ---- the work area: 32 words for each of a, b, c and d things, which are taken one after the other from what is left
 

@@ -3,7 +3,8 @@ ghost use mathlib.Core.Path.{_≡_};
 ghost use Rattle.rules.specs.Tables.{rowWidth, placeWidth};
 ghost use Rattle.rules.specs.Shape.{badHead, badPlace, badTable, badLayout, badHeldRows, badHeld};
 use crate::rows::has_bad_head;
-use crate::rows::has_bad_held_row;
+use crate::rows::has_bad_next;
+use crate::rows::has_bad_next_or_counts;
 use crate::rows::has_bad_place;
 use crate::rows::has_wrong_counts;
 
@@ -32,7 +33,7 @@ pub fn is_bad_layout(rows: &[u64], edges: &[u64], places: &[u64]) -> bool
     if is_bad_segment_table(rows) {
         return true;
     }
-    if has_wrong_counts(rows, rules::ROW, rows.len() / rules::ROW, edges.len()) {
+    if has_wrong_counts(rows, rows.len() / rules::ROW, edges.len()) {
         return true;
     }
     is_bad_place_table(places)
@@ -45,21 +46,18 @@ pub fn is_bad_held_rows(rows: &[u64], n: usize) -> bool
     if rows.len() / rules::HELD < n {
         return true;
     }
-    if has_bad_held_row(rows, n) {
-        return true;
-    }
-    !words::ascends(rows, rules::HELD, n)
+    has_bad_next(rows, n)
 }
 
 // n held rows with e edge words.
 pub fn is_bad_held(rows: &[u64], edges: &[u64], n: usize, e: usize) -> bool
     ensures { λ r. ⌜ r ≡ badHeld (now (rows .entry)) (now (edges .entry)) n e ⌝ }
 {
-    if is_bad_held_rows(rows, n) {
+    if rows.len() / rules::HELD < n {
         return true;
     }
     if edges.len() < e {
         return true;
     }
-    has_wrong_counts(rows, rules::HELD, n, e)
+    has_bad_next_or_counts(rows, n, e)
 }

@@ -1,32 +1,25 @@
--- `is_bad_held` meets its contract: the `or` of what its callees say; rows that are not bad have room for the walk over their counts.
+-- `is_bad_held` meets its contract: both areas, then what the pass over the rows says.
 -- Assumes nothing.
-use Rattle.answers.proofs.Judging.{either}
-use Rattle.shape.proofs.Whole.{compared}
-use Rattle.shape.proofs.Good.{held-rows-fit}
-use Rattle.rules.specs.Shape.{badHeld}
 use borrow.Author.Needs.{needs}
+use Rattle.rules.specs.Shape.{badHeldRows, badHeld}
+use Rattle.shape.proofs.Whole.{compared, rows-fit}
+use Rattle.shape.proofs.Next.{one-holds, other-holds, held-said}
 use Rattle.shape.proofs.tables.is_bad_held.Statement.{statement}
 use Rattle.shape.proofs.tables.is_bad_held.Tie as tie
 
-is-bad-held-rows-requires : tie.Need-is-bad-held-rows-requires
-is-bad-held-rows-requires c κs = search needs
-
 returns : tie.Need-returns
-unfolding badHeld
-returns c = search either
+unfolding badHeld badHeldRows
+returns c = search (needs, compared, one-holds)
 
 returns-2 : tie.Need-returns-2
 unfolding badHeld
-returns-2 c = search (either, compared)
+returns-2 c = search (needs, compared, other-holds)
 
-has-wrong-counts-requires : tie.Need-has-wrong-counts-requires
-has-wrong-counts-requires c κs = search (needs, held-rows-fit)
+has-bad-next-or-counts-requires : tie.Need-has-bad-next-or-counts-requires
+has-bad-next-or-counts-requires c κs = search needs
 
 returns-3 : tie.Need-returns-3
-unfolding badHeld
-returns-3 c = search (either, compared)
+returns-3 c = search (needs, held-said, rows-fit)
 
 pub is-bad-held-spec : {M : Type 1} → statement M
-is-bad-held-spec =
-    tie.close
-    (tie.spec is-bad-held-rows-requires returns returns-2 has-wrong-counts-requires returns-3)
+is-bad-held-spec = tie.close (tie.spec returns returns-2 has-bad-next-or-counts-requires returns-3)
