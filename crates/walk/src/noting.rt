@@ -16,8 +16,8 @@ pub fn hints_from(n: usize, g: usize) -> usize
 }
 
 // Is it time for hints, where `read` references will have been read with those of the next row? Not where there are few rows, or no gaps between
-// their ids, so that the first look of a search meets. Else once an eighth of rows and edge words was searched for: a search takes no more
-// than 64 looks, so till then there are at most eight for each row and edge word, and from then on three for each reference.
+// their ids, so that the first look of a search meets. Else once a sixteenth of rows and edge words was searched for: a search takes no more
+// than 64 looks, so till then there are at most four for each row and edge word, and from then on three for each reference.
 fn are_due(rows: &[u64], n: usize, g: usize, read: usize) -> bool
     requires { ⌜ (n * heldWidth ≤ length (now rows)) × Ascends (ids (now rows) heldWidth n) ⌝ }
     ensures { λ r. ⌜ (r ≡ true → 256 ≤ n) ⌝ }
@@ -30,7 +30,7 @@ fn are_due(rows: &[u64], n: usize, g: usize, read: usize) -> bool
     if last - first < n as u64 {
         return false;
     }
-    n / 8 + g / 8 < read
+    n / 16 + g / 16 < read
 }
 
 // In v stand g ids, their places in the order of the ids, and room for g hints.
