@@ -17,7 +17,8 @@ use Rattle.rules.specs.Delta.{addedOf, removedOf, splitPairs, mergePairs, width
 use Rattle.rules.specs.Update.{Changes, changed}
 use Rattle.rules.proofs.Ascended.{has-byId}
 use Rattle.rules.proofs.Covered.{covered-widths}
-use Rattle.delta.specs.Changed.{removedFrom, splitsFrom, mergesFrom, deltaFrom, changedFrom}
+use Rattle.paired.specs.Pairs.{splitsFrom, mergesFrom}
+use Rattle.delta.specs.Changed.{removedFrom, deltaFrom, changedFrom}
 
 removed-ruled : (u : List ℕ) (ss : List Segment) → removedFrom u (byId ss) ≡ removedOf u ss
 unfolding removedFrom removedOf

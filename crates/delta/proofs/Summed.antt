@@ -17,7 +17,7 @@ use Rattle.lists.specs.Lists.{has}
 use Rattle.rules.specs.Model.{Head, Segment}
 use Rattle.rules.specs.Tables.{heldWidth, headAt, parentsAt, childrenAt, segmentAt, segmentsFrom}
 use Rattle.rules.specs.Delta.{addedFrom, widthsActive}
-use Rattle.delta.specs.Tables.{bare}
+use Rattle.delta.specs.Bare.{bare}
 
 -- ---- one row
 

@@ -2,7 +2,6 @@
 --     added-lacking     the ids of the added segments are those that the old table lacks
 --     lent-rows, lent-room, lent-widths     what the parts ask of the rows that they are lent
 --     told-added, told-removed, told-delta     what they say of the lists and of the delta
---     told-merges, told-count, told-kept     what they say of the merge pairs, placed after the split pairs
 -- Assumes nothing.
 use Prim.Native.Nat.{ℕ, _+_, _-_, _*_, _≤_}
 use native.Mathlib.Nat.{sub-zero}
@@ -10,7 +9,7 @@ use native.Mathlib.Omega.{arith}
 use mathlib.Core.Path.{_≡_, refl, sym, ap, _∙_}
 use mathlib.Core.Bool.{Bool, true, false, not, cond}
 use mathlib.Core.List.{List, [], _∷_}
-use lib.ListN.{length, take, length-map}
+use lib.ListN.{length, length-map}
 use Rattle.lists.specs.Lists.{has, front}
 use Rattle.lists.specs.Sets.{keep}
 use Rattle.words.specs.Part.{part}
@@ -18,12 +17,13 @@ use Rattle.answers.specs.declared.DagChangeReason.{DagChangeReason}
 use Rattle.answers.specs.declared.DagDelta.{DagDelta}
 use Rattle.rules.specs.Model.{Segment, idOf, idsOf}
 use Rattle.rules.specs.Tables.{heldWidth}
-use Rattle.rules.specs.Delta.{addedFrom, pairWords, widthsActive, reasonOf}
+use Rattle.rules.specs.Delta.{addedFrom, widthsActive, reasonOf}
 use Rattle.tabled.specs.Image.{Image, imageRows, imageEdges, imageSegments}
 use Rattle.tabled.proofs.ByRow.{ids-segments}
-use Rattle.delta.specs.Tables.{Rows, idsIn, lacking, bare}
-use Rattle.delta.specs.Changed.{removedFrom, splitsFrom, mergesFrom, deltaFrom}
-use Rattle.tabled.proofs.Kept.{segments-kept}
+use Rattle.paired.specs.Tables.{Rows, idsIn, lacking}
+use Rattle.paired.specs.Pairs.{splitsFrom, mergesFrom}
+use Rattle.delta.specs.Bare.{bare}
+use Rattle.delta.specs.Changed.{removedFrom, deltaFrom}
 use Rattle.delta.proofs.Summed.{widths-any, handed-any}
 
 pub added-lacking : (u : List ℕ) (ss : List Segment) → idsOf (addedFrom u ss) ≡ lacking (idsOf ss) u
@@ -87,14 +87,3 @@ module _ (w : List ℕ) (n e : ℕ) (image : Image w n e) where
         let f : fewer ≡ length (removedFrom u S) = ef ∙ ap length removed-is in
         let o : handover ≡ widthsActive (addedFrom u S) = eh ∙ rw (lent-is w n) (handed-any u (imageRows w n) [] (imageEdges w n e) n 0 0 0) in
         ed ∙ rw (er, m, f, es, eg, o) refl
-
--- w₁ is what the split pairs left of w
-module _ (w w₁ u : List ℕ) (n e at : ℕ) (room : n * heldWidth + e ≤ at) (kept : take at w₁ ≡ take at w) where
-  pub told-merges : (out₀ out : List ℕ) → out ≡ front (pairWords (mergesFrom u (imageSegments w₁ n e))) out₀ → out ≡ front (pairWords (mergesFrom u (imageSegments w n e))) out₀
-  told-merges out₀ out said = said ∙ ap (λ (ss : List Segment). front (pairWords (mergesFrom u ss)) out₀) (segments-kept w₁ w at kept n e room)
-
-  pub told-count : (r : ℕ) → r ≡ length (mergesFrom u (imageSegments w₁ n e)) → r ≡ length (mergesFrom u (imageSegments w n e))
-  told-count r said = said ∙ ap (λ (ss : List Segment). length (mergesFrom u ss)) (segments-kept w₁ w at kept n e room)
-
-  pub told-kept : (w₂ : List ℕ) → take at w₂ ≡ take at w₁ → take at w₂ ≡ take at w
-  told-kept w₂ e = e ∙ kept

@@ -6,20 +6,14 @@ use mathlib.Core.List.{List}
 use lib.ListN.{length}
 use Rattle.lists.specs.Lists.{has, front}
 use Rattle.lists.specs.Sets.{keep}
-use Rattle.lists.specs.Sort.{sorted}
 use Rattle.answers.specs.declared.DagDelta.{DagDelta}
 use Rattle.rules.specs.Model.{Segment, idsOf}
-use Rattle.rules.specs.Delta.{Pair, pairLe, addedFrom, splitsOf, mergesOf, pairsFrom, pairWords, widthsActive, reasonOf}
+use Rattle.rules.specs.Delta.{addedFrom, pairWords, widthsActive, reasonOf}
 use Rattle.rules.specs.Update.{Changes}
+use Rattle.paired.specs.Pairs.{splitsFrom, mergesFrom}
 
 unfoldable pub removedFrom : List ℕ → List Segment → List ℕ
 removedFrom before ss = keep (λ (x : ℕ). not (has x (idsOf ss))) before
-
-unfoldable pub splitsFrom : List ℕ → List Segment → List Pair
-splitsFrom before ss = sorted pairLe (pairsFrom splitsOf before (addedFrom before ss))
-
-unfoldable pub mergesFrom : List ℕ → List Segment → List Pair
-mergesFrom before ss = sorted pairLe (pairsFrom mergesOf before (addedFrom before ss))
 
 unfoldable pub deltaFrom : ℕ → List ℕ → List Segment → DagDelta
 deltaFrom epoch before ss =

@@ -1,3 +1,2 @@
-pub mod Tables
-pub mod Pairs
+pub mod Bare
 pub mod Changed

@@ -7,13 +7,13 @@ ghost use Rattle.rules.specs.Model.{idsOf};
 ghost use Rattle.rules.specs.Tables.{heldWidth};
 ghost use Rattle.rules.specs.Delta.{addedFrom, pairWords, widthsActive, reasonOf, consumeAffecting};
 ghost use Rattle.tabled.specs.Image.{Image, imageSegments};
-ghost use Rattle.delta.specs.Tables.{Rows, idsIn, lacking, bare};
-ghost use Rattle.delta.specs.Changed.{removedFrom, splitsFrom, mergesFrom, deltaFrom};
+ghost use Rattle.paired.specs.Tables.{Rows, idsIn, lacking};
+ghost use Rattle.paired.specs.Pairs.{splitsFrom, mergesFrom};
+ghost use Rattle.delta.specs.Bare.{bare};
+ghost use Rattle.delta.specs.Changed.{removedFrom, deltaFrom};
 use answers::DagChangeReason;
 use answers::DagDelta;
 
-pub mod ids;
-pub mod pairs;
 pub mod widths;
 
 // The first that applies, from how many there are of each.
@@ -72,49 +72,12 @@ fn write_moved(
     ensures { λ r. ⌜ now (added .exit) ≡ front (lacking (idsIn (now (rows .entry)) n) (idsIn (now (old .entry)) h)) (now (added .entry)) ⌝ }
     ensures { λ r. ⌜ now (removed .exit) ≡ front (lacking (idsIn (now (old .entry)) h) (idsIn (now (rows .entry)) n)) (now (removed .entry)) ⌝ }
 {
-    let more = ids::write_lacking(added, rows, n, old, h);
-    let fewer = ids::write_lacking(removed, old, h, rows, n);
+    let more = paired::ids::write_lacking(added, rows, n, old, h);
+    let fewer = paired::ids::write_lacking(removed, old, h, rows, n);
     Moved {
         added: more,
         removed: fewer,
         handover: widths::handover(rows, n, old, h),
-    }
-}
-
-// How many pairs of each kind.
-struct Paired {
-    splits: usize,
-    merges: usize,
-}
-
-// The pairs of both kinds, one after the other in the same rows from word `at` on.
-fn write_paired(
-    w: &mut [u64],
-    n: usize,
-    e: usize,
-    at: usize,
-    old: &[u64],
-    h: usize,
-    splits: &mut [u64],
-    merges: &mut [u64],
-) -> Paired
-    requires { ⌜ Image (now w) n e ⌝ }
-    requires { ⌜ n * heldWidth + e ≤ at ⌝ }
-    requires { ⌜ at + 3 * e ≤ length (now w) ⌝ }
-    requires { ⌜ Rows (now old) h ⌝ }
-    requires { ⌜ 2 * e ≤ length (now splits) ⌝ }
-    requires { ⌜ 2 * e ≤ length (now merges) ⌝ }
-    ensures { λ r. ⌜ r .splits ≡ length (splitsFrom (idsIn (now (old .entry)) h) (imageSegments (now (w .entry)) n e)) ⌝ }
-    ensures { λ r. ⌜ r .merges ≡ length (mergesFrom (idsIn (now (old .entry)) h) (imageSegments (now (w .entry)) n e)) ⌝ }
-    ensures { λ r. ⌜ now (splits .exit) ≡ front (pairWords (splitsFrom (idsIn (now (old .entry)) h) (imageSegments (now (w .entry)) n e))) (now (splits .entry)) ⌝ }
-    ensures { λ r. ⌜ now (merges .exit) ≡ front (pairWords (mergesFrom (idsIn (now (old .entry)) h) (imageSegments (now (w .entry)) n e))) (now (merges .entry)) ⌝ }
-    ensures { λ r. ⌜ take at (now (w .exit)) ≡ take at (now (w .entry)) ⌝ }
-{
-    let split = pairs::write_splits(w, n, e, at, old, h, splits);
-    let merged = pairs::write_merges(w, n, e, at, old, h, merges);
-    Paired {
-        splits: split,
-        merges: merged,
     }
 }
 
@@ -150,7 +113,7 @@ pub fn write_delta(
 {
     let k = n * rules::HELD;
     let moved = write_moved(&w[0..k], n, old, h, added, removed);
-    let paired = write_paired(w, n, e, at, old, h, splits, merges);
+    let paired = paired::write_paired(w, n, e, at, old, h, splits, merges);
     DagDelta {
         epoch,
         added: moved.added,

@@ -7,7 +7,8 @@ ghost use lib.Dec.{eqb};
 ghost use lib.ListN.{length};
 ghost use Rattle.rules.specs.Tables.{heldWidth, segmentAt};
 ghost use Rattle.rules.specs.Delta.{addedFrom, widthsActive};
-ghost use Rattle.delta.specs.Tables.{Rows, idsIn, bare};
+ghost use Rattle.paired.specs.Tables.{Rows, idsIn};
+ghost use Rattle.delta.specs.Bare.{bare};
 
 // How many hashes, if that is the state of an Active row. The rule takes an end before the start for one hash, so no range needs judging here.
 fn active_width(state: u64, start: u64, end: u64) -> u64
@@ -30,7 +31,7 @@ fn handed_over(rows: &[u64], w: usize, old: &[u64], h: usize) -> u64
     requires { ⌜ widthsActive (segmentAt (now rows) [] w 0 ∷ []) ≤ 65536 ⌝ }
     ensures { λ r. ⌜ r ≡ widthsActive (addedFrom (idsIn (now (old .entry)) h) (segmentAt (now (rows .entry)) [] w 0 ∷ [])) ⌝ }
 {
-    if crate::ids::is_held(old, h, rows[w]) {
+    if paired::ids::is_held(old, h, rows[w]) {
         return 0;
     }
     active_width(rows[w + 3], rows[w + 1], rows[w + 2])

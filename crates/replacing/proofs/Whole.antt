@@ -26,7 +26,7 @@ use Rattle.rules.proofs.Ascended.{active-byId}
 use Rattle.shape.proofs.Good.{layout-rows, layout-counts, layout-places, held-fit, held-ascend}
 use Rattle.shape.proofs.Enough.{Update, enough-to-update}
 use Rattle.tabled.specs.Image.{imageSegments}
-use Rattle.delta.specs.Tables.{Rows}
+use Rattle.paired.specs.Tables.{Rows}
 use Rattle.delta.specs.Changed.{deltaFrom, changedFrom}
 use Rattle.delta.proofs.Ruled.{delta-ruled, changed-ruled, covered-handover}
 use Rattle.layout.specs.Laid.{Fit, LaidOut}

@@ -16,7 +16,7 @@ use Rattle.rules.specs.Delta.{widthsActive}
 use Rattle.rules.specs.Judge.{Areas}
 use Rattle.rules.specs.Update.{Changes, judged, heldBefore, ifAccepted}
 use Rattle.tabled.specs.Image.{Image, imageRows, imageEdges, imageSegments}
-use Rattle.delta.specs.Tables.{Rows}
+use Rattle.paired.specs.Tables.{Rows}
 use Rattle.delta.specs.Changed.{deltaFrom, changedFrom}
 use Rattle.layout.specs.Laid.{orderAt}
 

@@ -1,7 +1,7 @@
 -- `delta::widths::handover` meets its contract: what was summed and what the rows to come hand over is all of it (`Summed`).
 -- Assumes nothing.
 use Prim.Native.Nat.{_≤_, _-_}
-use Rattle.delta.specs.Tables.{idsIn}
+use Rattle.paired.specs.Tables.{idsIn}
 use Rattle.delta.proofs.Summed.{Summed, summed-start, row-fits, sum-fits, summed-next, summed-end}
 use borrow.Author.Needs.{needs}
 use Rattle.delta.proofs.widths.handover.Statement.{statement}
