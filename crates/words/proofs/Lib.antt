@@ -1,3 +1,4 @@
 pub mod PartLaws
 pub mod TableLaws
 pub mod PutMore
+pub mod Beside

@@ -6,7 +6,7 @@
 --     unsearched, searched  a search that is made only where a test fails
 --     row-found, row-missing     the same of the words of a table: what a caller of `find_row` cites
 --     word-in, field-in     a word of a row is in the table
---     asc-true, asc-false, asc-is     the test of the order, and what it tells
+--     asc-false, asc-is     the test of the order, and what it tells
 use mathlib.Core.Bool.{Bool, true, false, cond, _||_, and-false}
 use mathlib.Core.Path.{_≡_, refl, sym, ap, subst, _∙_}
 use mathlib.Core.List.{List, [], _∷_}
@@ -118,11 +118,6 @@ pub searched : (x t : Bool) (v f : Found) → x ≡ t → x ≡ false → v ≡ 
 searched x t v f said told e = rw (← said, told, e)
 
 -- ---- the test of the order
-
-pub asc-true : (l : List ℕ) → ((p : ℕ) → suc p < length l → getD l p 0 < getD l (suc p) 0) → ascending l ≡ true
-asc-true [] h = refl
-asc-true (x ∷ []) h = refl
-asc-true (x ∷ y ∷ l) h = rw (lt-ltb x y (h 0 (suc-le-suc (suc-le-suc zero-le)))) (asc-true (y ∷ l) (λ p q. h (suc p) (suc-le-suc q)))
 
 pub asc-false : (l : List ℕ) (p : ℕ) → suc p < length l → getD l (suc p) 0 ≤ getD l p 0 → ascending l ≡ false
 asc-false [] p q h = absurd (not-suc-le-zero q)

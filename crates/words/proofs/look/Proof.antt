@@ -2,18 +2,16 @@
 -- Assumes nothing.
 use borrow.Author.Needs.{needs}
 use native.Mathlib.Omega.{arith}
-use mathlib.Core.Path.{_≡_, refl, sym, ap, subst, _∙_}
-use mathlib.Core.Logic.{⊎-elim}
-use mathlib.Core.List.{List, [], _∷_, _++_}
-use Prim.Native.Nat.{ℕ, zero, suc, _+_, _-_, _*_, _/_, _≤_, _<_}
+use mathlib.Core.Path.{_≡_, sym}
+use mathlib.Core.List.{List}
+use Prim.Native.Nat.{ℕ, _+_, _-_, _*_, _≤_, _<_}
+use native.Mathlib.Nat.{le-trans, lt-of-lt-of-le}
 use native.Mathlib.Numerals.{lt-of-le-of-ne}
-use Rattle.lists.proofs.Cases.{lt-or-le}
-use native.Mathlib.Nat.{eq-or-lt-of-le, le-of-suc-le-suc, le-trans, lt-of-lt-of-le}
-use native.Mathlib.Numerals.{add-one}
 use Rattle.words.specs.Table.{ids, whereIs, Ascends}
 use Rattle.words.specs.declared.Found.the-variants.{At, Nothing}
-use Rattle.words.proofs.TableLaws.{length-ids, ids-at, is-at, is-nothing, word-in}
-use lib.ListN.{length, getD, take, drop, set, replicate, length-set}
+use Rattle.words.proofs.TableLaws.{word-in}
+use Rattle.words.proofs.Beside.{stands, past, short-of, between}
+use lib.ListN.{length, getD}
 use Rattle.words.proofs.look.Statement.{statement}
 use Rattle.words.proofs.look.Tie as tie
 
@@ -28,15 +26,11 @@ module _ (t : List ℕ) (w n x lo hi : ℕ) (asc : Ascends (ids t w n)) (b : Bra
   in-n : m < n
   in-n = lt-of-lt-of-le in-hi (b .hi-le)
 
-  in-l : m < length (ids t w n)
-  in-l = rw length-ids in-n
-
   up : getD t (m * w) 0 < x → Bracket (ids t w n) x n (m + 1) hi
   up h = record {
     lo-le = omega (arith, in-hi);
     hi-le = b .hi-le;
-    below = λ k q. ⊎-elim (λ (e : k ≡ m). rw (e, ids-at t w n m in-n) h)
-        (λ (l : k < m). omega (arith, asc k m l in-l, ids-at t w n m in-n)) (eq-or-lt-of-le (le-of-suc-le-suc (rw add-one at q)));
+    below = past t w n x asc m in-n h;
     above = b .above;
   }
 
@@ -45,16 +39,14 @@ module _ (t : List ℕ) (w n x lo hi : ℕ) (asc : Ascends (ids t w n)) (b : Bra
     lo-le = from-lo;
     hi-le = omega (arith, b .hi-le);
     below = b .below;
-    above = λ k q q′. ⊎-elim (λ (e : m ≡ k). rw (← e, ids-at t w n m in-n) h)
-        (λ (l : m < k). omega (arith, asc m k l (rw length-ids q′), ids-at t w n m in-n)) (eq-or-lt-of-le q);
+    above = short-of t w n x asc m in-n h;
   }
 
   hit : getD t (m * w) 0 ≡ x → At m ≡ whereIs (ids t w n) x
-  hit e = sym (is-at (ids t w n) x m in-l (ids-at t w n m in-n ∙ e) (λ j q e′. omega (arith, asc j m q in-l, ids-at t w n m in-n)))
+  hit = stands t w n x asc m in-n
 
 miss : (t : List ℕ) (w n x lo hi : ℕ) → Bracket (ids t w n) x n lo hi → hi ≤ lo → Nothing ≡ whereIs (ids t w n) x
-miss t w n x lo hi b h = sym (is-nothing (ids t w n) x (λ j q e. ⊎-elim (λ (l : j < lo). omega (arith, b .below j l))
-    (λ (l : lo ≤ j). omega (arith, b .above j (le-trans h l) (rw length-ids at q))) (lt-or-le j lo)))
+miss t w n x lo hi b h = between t w n x lo (b .below) (λ k q. b .above k (le-trans h q))
 
 abbrev Inv-loop : tie.InvT-loop
 Inv-loop rows width count id from lo₀ hi₀ at₀ lo hi at = Bracket (ids rows width count) id count lo hi × (lo < hi → (lo ≤ at) × (at < hi))
@@ -64,80 +56,66 @@ abbrev μ-loop : tie.MeasureT-loop
 
 -- in the loop's body: the row that is looked at lies between lo and hi, so its id is in the table
 module _ (c : tie.In-loop Inv-loop μ-loop) where
-  between : (c .before .loop .lo ≤ c .before .loop .at) × (c .before .loop .at < c .before .loop .hi)
-  between = c .before .loop .inv .1 (c .loop-test .taken)
+  inside : (c .before .loop .lo ≤ c .before .loop .at) × (c .before .loop .at < c .before .loop .hi)
+  inside = c .before .loop .inv .1 (c .loop-test .taken)
 
   here : c .before .loop .at * c .before .before .before .args .width < length (c .before .before .before .args .rows .now)
-  here = word-in _ (c .before .before .before .args .count) _ _ (omega (arith, between .1, c .before .loop .inv .0 .hi-le)) (omega arith)
+  here = word-in _ (c .before .before .before .args .count) _ _ (omega (arith, inside .1, c .before .loop .inv .0 .hi-le)) (omega arith)
       (c .before .before .before .pre .0 .1)
 
--- src/lib.rt:91:5
 loop-holds : tie.Need-loop-holds Inv-loop μ-loop
 loop-holds c = search needs
 
--- src/lib.rt:92:22
 mul-x : tie.Need-mul-x Inv-loop μ-loop
 mul-x c = omega (arith, here c)
 
--- src/lib.rt:92:17
 mul-x-2 : tie.Need-mul-x-2 Inv-loop μ-loop
 mul-x-2 c = omega (arith, here c)
 
--- src/lib.rt:92:17
 shared-slice-read-x : tie.Need-shared-slice-read-x Inv-loop μ-loop
 shared-slice-read-x c = here (c .before)
 
--- src/lib.rt:94:13
 returns : tie.Need-returns Inv-loop μ-loop
 returns c =
     let i = c .before .before in
     let s = i .before .before .before in
-    hit (s .args .rows .now) (s .args .width) (s .args .count) (s .args .id) _ _ (s .pre .1 .0) (i .before .loop .inv .0) _ (between i .0) (between i .1) (c .if1 .taken)
+    hit (s .args .rows .now) (s .args .width) (s .args .count) (s .args .id) _ _ (s .pre .1 .0) (i .before .loop .inv .0) _ (inside i .0) (inside i .1) (c .if1 .taken)
 
--- src/lib.rt:97:18
 add-lo : tie.Need-add-lo Inv-loop μ-loop
-add-lo c = omega (arith, between (c .before .before .before) .1)
+add-lo c = omega (arith, inside (c .before .before .before) .1)
 
--- src/lib.rt:98:34
 sub-further : tie.Need-sub-further Inv-loop μ-loop
 sub-further c = search needs
 
--- src/lib.rt:98:13
 further-requires : tie.Need-further-requires Inv-loop μ-loop
-further-requires c κs = (omega (arith, between (c .before .before .before) .1), omega arith)
+further-requires c κs = (omega (arith, inside (c .before .before .before) .1), omega arith)
 
--- src/lib.rt:91:5
 loop-less : tie.Need-loop-less Inv-loop μ-loop
-loop-less c = omega (arith, between (c .before .before .before .before) .0, between (c .before .before .before .before) .1)
+loop-less c = omega (arith, inside (c .before .before .before .before) .0, inside (c .before .before .before .before) .1)
 
--- src/lib.rt:91:5
 loop-again : tie.Need-loop-again Inv-loop μ-loop
 loop-again c =
     let i = c .before .before .before .before in
     let s = i .before .before .before in (
-      up (s .args .rows .now) (s .args .width) (s .args .count) (s .args .id) _ _ (s .pre .1 .0) (i .before .loop .inv .0) _ (between i .0) (between i .1) (c .before .if2 .taken),
+      up (s .args .rows .now) (s .args .width) (s .args .count) (s .args .id) _ _ (s .pre .1 .0) (i .before .loop .inv .0) _ (inside i .0) (inside i .1) (c .before .if2 .taken),
       λ h. (c .further .ensures .0, c .further .ensures .2 h),
     )
 
--- src/lib.rt:101:13
 nearer-requires : tie.Need-nearer-requires Inv-loop μ-loop
-nearer-requires c κs = (between (c .before .before .before) .0, omega (arith, lt-of-le-of-ne (c .if2 .left) (λ e. c .before .if1 .left (sym e))))
+nearer-requires c κs = (inside (c .before .before .before) .0, omega (arith, lt-of-le-of-ne (c .if2 .left) (λ e. c .before .if1 .left (sym e))))
 
--- src/lib.rt:91:5
 loop-less-2 : tie.Need-loop-less-2 Inv-loop μ-loop
-loop-less-2 c = omega (arith, between (c .before .before .before .before) .0, between (c .before .before .before .before) .1)
+loop-less-2 c = omega (arith, inside (c .before .before .before .before) .0, inside (c .before .before .before .before) .1)
 
--- src/lib.rt:91:5
 loop-again-2 : tie.Need-loop-again-2 Inv-loop μ-loop
 loop-again-2 c =
     let i = c .before .before .before .before in
     let s = i .before .before .before in (
-      down (s .args .rows .now) (s .args .width) (s .args .count) (s .args .id) _ _ (s .pre .1 .0) (i .before .loop .inv .0) _ (between i .0) (between i .1)
+      down (s .args .rows .now) (s .args .width) (s .args .count) (s .args .id) _ _ (s .pre .1 .0) (i .before .loop .inv .0) _ (inside i .0) (inside i .1)
           (lt-of-le-of-ne (c .before .if2 .left) (λ e. c .before .before .if1 .left (sym e))),
       λ h. (c .nearer .ensures .0, c .nearer .ensures .2 h),
     )
 
--- src/lib.rt:82:1
 returns-2 : tie.Need-returns-2 Inv-loop μ-loop
 returns-2 c =
     let s = c .before .before .before in

@@ -5,7 +5,7 @@ use borrow.Author.Tests.{eqb-true, ltb-true}
 use native.Mathlib.Omega.{arith}
 use Rattle.words.proofs.TableLaws.{word-in}
 use Prim.Native.Nat.{_-_}
-use Rattle.hints.proofs.Beside.{past}
+use Rattle.words.proofs.Beside.{past}
 use Rattle.hints.proofs.near.is_past.Statement.{statement}
 use Rattle.hints.proofs.near.is_past.Tie as tie
 

@@ -4,7 +4,7 @@ use borrow.Author.Needs.{needs}
 use borrow.Author.Tests.{eqb-true, ltb-true}
 use native.Mathlib.Omega.{arith}
 use Rattle.words.proofs.TableLaws.{word-in}
-use Rattle.hints.proofs.Beside.{short-of}
+use Rattle.words.proofs.Beside.{short-of}
 use Rattle.hints.proofs.near.is_short_of.Statement.{statement}
 use Rattle.hints.proofs.near.is_short_of.Tie as tie
 

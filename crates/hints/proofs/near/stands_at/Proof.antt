@@ -5,7 +5,7 @@ use borrow.Author.Tests.{eqb-true, ltb-true}
 use Rattle.lists.proofs.SetLaws.{never}
 use native.Mathlib.Omega.{arith}
 use Rattle.words.proofs.TableLaws.{word-in}
-use Rattle.hints.proofs.Beside.{stands}
+use Rattle.words.proofs.Beside.{stands}
 use Rattle.hints.proofs.near.stands_at.Statement.{statement}
 use Rattle.hints.proofs.near.stands_at.Tie as tie
 
