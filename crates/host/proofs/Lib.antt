@@ -1,6 +1,3 @@
-pub mod Capped
-pub mod Enough
-pub mod Numbers
 pub mod Spans
 pub mod Unique
 pub mod Updated

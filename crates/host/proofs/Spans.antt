@@ -19,7 +19,7 @@ use Rattle.tabled.specs.Image.{segmentIn}
 use Rattle.ordering.specs.Rows.{knownRow, Fit}
 use Rattle.ordering.proofs.Stretches.{known-fit, stretch-found, stretch-nothing}
 use Rattle.host.specs.declared.stretch.RowEdges.{RowEdges}
-use Rattle.host.specs.Told.{refusalOf}
+use Rattle.crossing.specs.Told.{refusalOf}
 use Rattle.host.specs.Span.{startIn, parentsIn, childrenIn, rowEdges, parentSpan, childSpan}
 
 -- n words from `from` on, as the stretch up to `from + n`

@@ -10,7 +10,7 @@ use Rattle.types.specs.declared.records.Update.{Update}
 use Rattle.rules.specs.Judge.{Tables, Areas}
 use Rattle.rules.specs.Update.{Changes}
 use Rattle.watch.proofs.Unique.{owed-one}
-use Rattle.host.specs.declared.updating.UpdatedWords.{UpdatedWords}
+use Rattle.crossing.specs.declared.updated.UpdatedWords.{UpdatedWords}
 use Rattle.host.specs.Updates.{Told}
 
 pub told-one : (s : Session) (u : Update) (limits : DagLimits) (t : Tables) (work : List ℕ) (a : Areas) (c : Changes) (v v′ : UpdatedWords) (z z′ : Session)

@@ -1,28 +1,17 @@
--- The answer of an update as a struct of numbers, by the case that was met; and what `watch` owes told of the rule book's answer. Assumes nothing.
+-- What `watch` owes, told of the rule book's answer as a struct of numbers. Assumes nothing.
 use Prim.Native.Nat.{ℕ}
-use mathlib.Core.Path.{_≡_, refl, sym, ap, _∙_}
+use mathlib.Core.Path.{_≡_, refl, ap, _∙_}
 use mathlib.Core.List.{List}
-use Rattle.answers.specs.declared.Refusal.{Refusal}
-use Rattle.answers.specs.declared.DagDelta.{DagDelta}
-use Rattle.answers.specs.declared.DagChangeReason.{DagChangeReason}
 use Rattle.answers.specs.declared.Updated.{Updated}
-use Rattle.answers.specs.declared.Updated.the-variants as U
 use Rattle.types.specs.declared.limits.DagLimits.{DagLimits}
 use Rattle.types.specs.declared.records.Session.{Session}
 use Rattle.types.specs.declared.records.Update.{Update}
 use Rattle.rules.specs.Judge.{Tables, Areas}
-use Rattle.rules.specs.Update.{Changes, updateAfter}
+use Rattle.rules.specs.Update.{Changes}
 use Rattle.watch.specs.Owed.{Owed}
-use Rattle.host.specs.declared.updating.UpdatedWords.{UpdatedWords}
-use Rattle.host.specs.Told.{noRefusal}
-use Rattle.host.specs.Updates.{reasonNumber, unchangedWords, updatedWords, Told}
-
-pub told-as : (v : UpdatedWords) (u k : Updated) → v ≡ updatedWords k → u ≡ k → v ≡ updatedWords u
-told-as v u k said is = said ∙ ap updatedWords (sym is)
-
-pub accepted-as : (u : Updated) (d : DagDelta) (reason : ℕ) → reason ≡ reasonNumber (d .reason) → u ≡ U.Accepted d
-    → record { outcome = 2; refusal = noRefusal; epoch = d .epoch; added = d .added; removed = d .removed; splits = d .splits; merges = d .merges; reason = reason; handover = d .handover } ≡ updatedWords u
-accepted-as u d reason e is = rw (is, e) refl
+use Rattle.crossing.specs.declared.updated.UpdatedWords.{UpdatedWords}
+use Rattle.crossing.specs.Updates.{updatedWords}
+use Rattle.host.specs.Updates.{Told}
 
 module _ (s : Session) (u : Update) (limits : DagLimits) (t : Tables) (work : List ℕ) (a : Areas) (c : Changes) where
   pub told-whole : (v : UpdatedWords) (x : Updated) (s′ : Session) (work′ held′ links′ order′ added′ removed′ splits′ merges′ : List ℕ)

@@ -18,7 +18,7 @@ use Rattle.assignment.specs.declared.Turn as A
 use Rattle.assignment.specs.Turns.{beforeList, turnTo}
 use Rattle.assignment.proofs.Walk as W
 use Rattle.host.specs.declared.assigned.Turn.{Turn}
-use Rattle.host.specs.Told.{refusalOf}
+use Rattle.crossing.specs.Told.{refusalOf}
 use Rattle.host.specs.Turns.{turnWords}
 
 pub turn-told : (t : A.Turn) (r : Refusal) → r ≡ refusalOf (t .answer) → record { next = t .next; answer = r } ≡ turnWords t

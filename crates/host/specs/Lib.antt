@@ -1,5 +1,4 @@
-pub mod Told
+pub mod Mode
 pub mod Span
-pub mod Needs
 pub mod Turns
 pub mod Updates

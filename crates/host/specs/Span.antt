@@ -7,7 +7,7 @@ use Rattle.words.specs.declared.Found.the-variants.{At, Nothing}
 use Rattle.rules.specs.Tables.{heldWidth, startOf, parentsAt, childrenAt}
 use Rattle.rules.specs.Ordering.{knownRule}
 use Rattle.ordering.specs.Rows.{knownRow}
-use Rattle.host.specs.Told.{refusalOf}
+use Rattle.crossing.specs.Told.{refusalOf}
 use Rattle.host.specs.declared.stretch.Stretch.{Stretch}
 use Rattle.host.specs.declared.stretch.RowEdges.{RowEdges}
 

@@ -2,7 +2,7 @@
 -- Assumes nothing.
 use Rattle.assignment.specs.declared.Turn as A
 use Rattle.host.specs.declared.assigned.Turn.{Turn}
-use Rattle.host.specs.Told.{refusalOf}
+use Rattle.crossing.specs.Told.{refusalOf}
 
 abbrev pub turnWords : A.Turn → Turn
 turnWords t = record { next = t .next; answer = refusalOf (t .answer) }

@@ -7,7 +7,7 @@ ghost use Rattle.rules.specs.Tables.{heads, heldWidth};
 ghost use Rattle.rules.specs.Shape.{badHeldRows};
 ghost use Rattle.rules.specs.Assignment.{assignedRule, assignmentRule};
 ghost use Rattle.assignment.specs.Turns.{beforeList, turnTo};
-ghost use Rattle.host.specs.Told.{refusalOf};
+ghost use Rattle.crossing.specs.Told.{refusalOf};
 ghost use Rattle.host.specs.Turns.{turnWords};
 use answers::Refusal;
 use types::records::Assigned;
@@ -24,7 +24,7 @@ fn told(turn: assignment::Turn) -> Turn
     let judged = turn.answer;
     Turn {
         next: turn.next,
-        answer: crate::answer::refusal_of(judged),
+        answer: crossing::answer::refusal_of(judged),
     }
 }
 

@@ -2,8 +2,9 @@
 ghost use mathlib.Core.Path.{_≡_};
 ghost use lib.ListN.{length};
 ghost use Rattle.rules.specs.Ordering.{query, orderingOf, firstAfter, secondAfter, orderWorkAfter};
-ghost use Rattle.host.specs.Told.{orderingWords, modeOf};
-use crate::answer::OrderingWords;
+ghost use Rattle.crossing.specs.Told.{orderingWords};
+ghost use Rattle.host.specs.Mode.{modeOf};
+use crossing::answer::OrderingWords;
 use types::records::OrderingMode;
 use types::records::SegmentId;
 
@@ -50,5 +51,5 @@ pub extern "C" fn threshpetal_ordering_eligibility(
         first,
         second,
     );
-    crate::answer::ordering_words(answer)
+    crossing::answer::ordering_words(answer)
 }

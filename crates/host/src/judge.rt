@@ -3,7 +3,7 @@ ghost use mathlib.Core.Path.{_≡_};
 ghost use lib.ListN.{length};
 ghost use Rattle.rules.specs.Judge.{judgement};
 ghost use Rattle.layout.specs.Lent.{tablesOf, areasOf, Owed};
-ghost use Rattle.host.specs.Told.{refusalOf};
+ghost use Rattle.crossing.specs.Told.{refusalOf};
 use answers::Refusal;
 use types::limits::DagLimits;
 
@@ -37,5 +37,5 @@ pub extern "C" fn threshpetal_judge(
         links,
         order,
     );
-    crate::answer::refusal_of(judged)
+    crossing::answer::refusal_of(judged)
 }

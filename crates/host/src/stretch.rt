@@ -6,7 +6,7 @@ ghost use Rattle.words.specs.Part.{part};
 ghost use Rattle.rules.specs.Tables.{heldWidth, edgesFrom};
 ghost use Rattle.rules.specs.Ordering.{knownRule, parentStretch, childStretch};
 ghost use Rattle.ordering.specs.Rows.{knownRow};
-ghost use Rattle.host.specs.Told.{refusalOf};
+ghost use Rattle.crossing.specs.Told.{refusalOf};
 ghost use Rattle.host.specs.Span.{rowEdges, parentSpan, childSpan};
 use answers::Refusal;
 use types::records::SegmentId;
@@ -60,7 +60,7 @@ fn refusal_for(rows: &[u64], edges: &[u64], h: usize, g: usize, segment: u64) ->
     ensures { λ r. ⌜ r ≡ refusalOf (knownRule (now (rows .entry)) (now (edges .entry)) h g segment) ⌝ }
 {
     let judged = ordering::judge_known(rows, edges, h, g, SegmentId(segment));
-    crate::answer::refusal_of(judged)
+    crossing::answer::refusal_of(judged)
 }
 
 // `ordering::parents_of`: the ids from `start` on, `length` of them, are the parents, and they lie within the g edge words.

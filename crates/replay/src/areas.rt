@@ -167,7 +167,7 @@ pub fn compare_numbers(
 
 // A judgement: its number, 0 where accepted, and its values.
 pub fn compare_refusal(judged: Judged, line: &[u64], at: usize) -> Difference {
-    let r = host::answer::refusal_of(judged);
+    let r = crossing::answer::refusal_of(judged);
     let words = [r.number, r.a, r.b, r.c, r.d];
     compare_numbers(NONE, names::ANSWER, &words, line, at)
 }

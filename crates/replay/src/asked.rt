@@ -21,7 +21,7 @@ fn mode_of(word: u64) -> OrderingMode {
 }
 
 fn compare_answer(answer: Ordering, line: &[u64]) -> Difference {
-    let o = host::answer::ordering_words(answer);
+    let o = crossing::answer::ordering_words(answer);
     let words = [
         o.outcome,
         o.refusal.number,

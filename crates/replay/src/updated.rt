@@ -71,7 +71,7 @@ fn flag(b: bool) -> u64 {
 }
 
 fn compare_answer(answer: Updated, line: &[u64]) -> Difference {
-    let u = host::updating::updated_words(answer);
+    let u = crossing::updated::updated_words(answer);
     let words = [
         u.outcome,
         u.refusal.number,

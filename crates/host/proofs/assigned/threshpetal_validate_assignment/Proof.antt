@@ -51,7 +51,7 @@ use Rattle.rules.specs.Tables.{heads, heldWidth}
 use Rattle.rules.specs.Shape.{badHeldRows}
 use Rattle.rules.specs.Assignment.{assignedRule, assignmentRule}
 use Rattle.assignment.specs.Turns.{beforeList, turnTo}
-use Rattle.host.specs.Told.{refusalOf}
+use Rattle.crossing.specs.Told.{refusalOf}
 use Rattle.host.specs.Turns.{turnWords}
 use Rattle.host.proofs.Walk.{Walking, starts, keeps, ended, nearer, allowed}
 use Rattle.types.specs.declared.records.Assigned.{Assigned}

@@ -49,7 +49,7 @@ use Rattle.types.specs.declared.records.Session.{Session}
 use Rattle.host.specs.declared.updating.HostOutcome.{HostOutcome}
 use Rattle.types.specs.declared.limits.DagLimits.{DagLimits}
 use Rattle.types.specs.declared.records.Update.{Update}
-use Rattle.host.specs.declared.updating.UpdatedWords.{UpdatedWords}
+use Rattle.crossing.specs.declared.updated.UpdatedWords.{UpdatedWords}
 use Rattle.types.proofs.records.Session as Session
 use Rattle.types.proofs.records.Session.Laws as Session′
 use Rattle.host.proofs.updating.HostOutcome as HostOutcome
@@ -58,8 +58,8 @@ use Rattle.types.proofs.limits.DagLimits as DagLimits
 use Rattle.types.proofs.limits.DagLimits.Laws as DagLimits′
 use Rattle.types.proofs.records.Update as Update
 use Rattle.types.proofs.records.Update.Laws as Update′
-use Rattle.host.proofs.updating.UpdatedWords as N
-use Rattle.host.proofs.updating.UpdatedWords.Laws as N′
+use Rattle.crossing.proofs.updated.UpdatedWords as N
+use Rattle.crossing.proofs.updated.UpdatedWords.Laws as N′
 use Rattle.host.proofs.updating.update_words as core
 use Rattle.host.proofs.updating.update_words.Symbol as core-def
 use Rattle.host.proofs.updating.update_words.Symbol.{name as #host·updating·update-words}
