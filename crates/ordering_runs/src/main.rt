@@ -3,6 +3,7 @@
 use types::records::OrderingMode;
 use types::records::SegmentId;
 
+mod many;
 mod print;
 mod tables;
 
@@ -344,4 +345,5 @@ fn main() {
     run_own();
     run_lost();
     run_mixed();
+    many::run();
 }
