@@ -4,7 +4,7 @@ ghost use Rattle.answers.specs.Kinds.{kind_of};
 
 // 0 none, 1 added, 2 layout, 3 session, 4 ordering, 5 assignment.
 #[repr(C)]
-#[derive(Drop)]
+#[derive(Clone, Copy)]
 pub struct Kind {
     pub family: u64,
     pub values: u64,

@@ -1,5 +1,7 @@
 // The answers of document 01, "Answers by number": a refusal is a number and its values, and each answer that is an enum has a
 // definition in specs/ that gives number and values for each of its cases.
+#![tactic(auto)]
+
 ghost use Rattle.std.specs.Prelude.{◌≡◌};
 ghost use Rattle.answers.specs.Answer.{number_of};
 
@@ -7,7 +9,7 @@ pub mod kinds;
 
 // A refusal: its number in document 01 and up to four values. Values that a number does not carry are 0.
 #[repr(C)]
-#[derive(Drop)]
+#[derive(Clone, Copy)]
 pub struct Refusal {
     pub number: u64,
     pub a: u64,
@@ -17,7 +19,7 @@ pub struct Refusal {
 }
 
 // What a judgement says: 0 or the refusal.
-#[derive(Drop)]
+#[derive(Clone, Copy)]
 pub enum Judged {
     Accepted,
     Refused(Refusal),
@@ -41,7 +43,7 @@ pub fn number(j: Judged) -> u64
 }
 
 // May a segment be read? The lists stand at the front of the two ordering lists; here are their lengths.
-#[derive(Drop)]
+#[derive(Clone, Copy)]
 pub enum Eligibility {
     // 1, 2, 50
     Refused(Refusal),
@@ -55,14 +57,14 @@ pub enum Eligibility {
 }
 
 // The answer of an ordering query, with the count of parent references that it read.
-#[derive(Drop)]
+#[derive(Clone, Copy)]
 pub struct Ordering {
     pub eligibility: Eligibility,
     pub read: u64,
 }
 
 // Why the layout changed under its readers.
-#[derive(Drop)]
+#[derive(Clone, Copy)]
 pub enum DagChangeReason {
     Split,
     Merge,
@@ -71,7 +73,7 @@ pub enum DagChangeReason {
 }
 
 // What an accepted update changed: how many words (added, removed) and pairs (splits, merges) the four lists hold.
-#[derive(Drop)]
+#[derive(Clone, Copy)]
 pub struct DagDelta {
     pub epoch: u64,
     pub added: usize,
@@ -83,7 +85,7 @@ pub struct DagDelta {
 }
 
 // The answer of an update.
-#[derive(Drop)]
+#[derive(Clone, Copy)]
 pub enum Updated {
     Refused(Refusal),
     Stale,

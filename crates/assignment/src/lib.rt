@@ -1,4 +1,6 @@
 // Document 01's assignment: the segments that a consumer was assigned, held against the layout that its session holds.
+#![tactic(auto)]
+
 ghost use Rattle.std.specs.Prelude.{◌≡◌, false, not, ◌||◌, ◌+◌, ◌*◌, ◌<◌, ◌≤◌, eqb, length};
 ghost use Rattle.std.proofs.Math.Option.{some};
 ghost use Rattle.answers.specs.Answer.{when, refuse2};
@@ -13,7 +15,7 @@ use types::records::Assigned;
 use words::Found;
 
 // Where the walk over the list stands: the next record, which is past the last one where the walk has ended, and the answer so far.
-#[derive(Drop)]
+#[derive(Clone, Copy)]
 pub struct Turn {
     pub next: usize,
     pub answer: Judged,

@@ -1,5 +1,4 @@
 pub mod Capped
 pub mod Enough
 pub mod Numbers
-pub mod Updates
 pub mod Words

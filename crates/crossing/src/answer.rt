@@ -7,7 +7,7 @@ use answers::{Eligibility, Judged, Ordering, Refusal};
 // What an ordering query answers. `outcome`: 0 refused, 1 blocked, 2 eligible, 3 broker-managed; `first`, `second`: how many ids the two
 // lists hold at their front, 51's among them; `read`: parent references read.
 #[repr(C)]
-#[derive(Drop)]
+#[derive(Clone, Copy)]
 pub struct OrderingWords {
     pub outcome: u64,
     pub refusal: Refusal,

@@ -7,7 +7,7 @@ use answers::{DagChangeReason, Refusal, Updated};
 // What an update answers. `outcome`: 0 refused, 1 stale, 2 accepted; `reason`: 0 split, 1 merge, 2 removed, 3 unknown; how many words (added,
 // removed) and pairs (splits, merges) the four lists hold. All but `outcome` and `refusal` are 0 unless accepted.
 #[repr(C)]
-#[derive(Drop)]
+#[derive(Clone, Copy)]
 pub struct UpdatedWords {
     pub outcome: u64,
     pub refusal: Refusal,

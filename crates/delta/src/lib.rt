@@ -1,4 +1,6 @@
 // Document 01's delta: what an accepted layout changed, from the image of the new rows and the old held rows.
+#![tactic(auto)]
+
 ghost use Rattle.std.specs.Prelude.{◌≡◌, ◌+◌, ◌*◌, ◌≤◌, length, take};
 ghost use Rattle.lists.specs.Lists.{front};
 ghost use Rattle.rules.specs.Model.{ids_of};
@@ -44,7 +46,7 @@ pub fn is_consume_affecting(d: DagDelta) -> bool
 }
 
 // How many ids came and how many went, and how many hashes the new ones took over.
-#[derive(Drop)]
+#[derive(Clone, Copy)]
 struct Moved {
     added: usize,
     removed: usize,

@@ -3,7 +3,7 @@
 use Prim.Native.Nat.{ℕ, ◌/◌}
 use native.Mathlib.Omega.{arith}
 use mathlib.Core.Path.{◌≡◌, refl}
-use mathlib.Core.Bool.{Bool, true, false, ◌||◌}
+use mathlib.Core.Bool.{Bool, true, false}
 use mathlib.Core.List.{List}
 use lib.ListN.{length}
 use Rattle.answers.specs.declared.DagDelta.{DagDelta}
@@ -18,7 +18,7 @@ use Rattle.types.specs.declared.records.Update.{Update}
 use Rattle.rules.specs.Model.{Segment}
 use Rattle.rules.specs.Tables.{row_width, place_width, held_segments}
 use Rattle.rules.specs.Shape.{bad_layout, bad_held}
-use Rattle.rules.specs.Room.{no_room_to_judge, no_room_to_update}
+use Rattle.rules.specs.Room.{no_room_to_judge}
 use Rattle.rules.specs.Layout.{layout_rule}
 use Rattle.rules.specs.Judge.{Tables, Areas, segments_in, placements_in, judgement, filled}
 use Rattle.rules.specs.Update.{Changes, held_count, held_edge_count, Went, refused_before, stale, judged, address_rule, is_stale, bad_tables, short_to_update, replace_rule, went_after, went, updated_of, held_before, update_after}

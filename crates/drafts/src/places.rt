@@ -5,7 +5,7 @@ ghost use Rattle.drafts.specs.Places.{at_first, between_updates, in_place, after
 use reading::lines::Line;
 
 // What has been read: S, and of the update that is open U, D, e, n, c, t.
-#[derive(Drop)]
+#[derive(Clone, Copy)]
 pub struct Place {
     pub begun: bool,
     pub inside: bool,

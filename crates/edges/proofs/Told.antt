@@ -6,31 +6,28 @@ use native.Mathlib.Nat.{sub-zero}
 use native.Mathlib.Numerals.{add-one}
 use native.Mathlib.Omega.{arith}
 use mathlib.Core.Path.{◌≡◌, refl, sym, ap, ◌∙◌}
-use mathlib.Core.Bool.{Bool, true, false, not}
-use mathlib.Core.Option.{Option, none, some}
+use mathlib.Core.Bool.{Bool, true, false}
+use mathlib.Core.Option.{some}
 use mathlib.Core.List.{List, [], ◌∷◌}
 use mir.Val.{Fits}
 use mir.Syntax.{w64}
 use lib.ListN.{length, get_or, drop, drop_of_length-le}
 use lib.Seq.{drop-cons}
-use Rattle.lists.specs.Lists.{has}
 use Rattle.lists.proofs.Cases.{one_left}
 use Rattle.words.specs.Table.{ids, where_is}
 use Rattle.words.specs.declared.Found.{Found}
 use Rattle.words.specs.declared.Found.TheVariants.{At, Nothing}
 use Rattle.words.proofs.TableLaws as Rows
-use Rattle.sorts.specs.Rows.{rows}
 use Rattle.answers.specs.declared.Refusal.{Refusal}
 use Rattle.answers.specs.declared.Judged.{Judged}
 use Rattle.answers.specs.declared.Judged.TheVariants.{Accepted, Refused}
-use Rattle.answers.specs.Answer.{when, refuse2, ◌then◌}
+use Rattle.answers.specs.Answer.{refuse2}
 use Rattle.rules.specs.Model.{Segment, lookup}
-use Rattle.rules.specs.Tables.{held_width, optional, stretch, parents_at, children_at, edges_from, start_of, segment_at, segments_from, held_segments}
-use Rattle.rules.specs.Edges.{epoch_rule, parent_found, parent_known, parent_rule, child_found, child_known, child_rule, parents_rule, children_rule, links_rule, links_from}
+use Rattle.rules.specs.Tables.{held_width, parents_at, children_at, start_of, segments_from, held_segments}
+use Rattle.rules.specs.Edges.{parent_found, parent_known, parent_rule, child_found, child_known, child_rule, parents_rule, children_rule, links_rule, links_from}
 use Rattle.rules.proofs.Places.{start-next, start-room}
 use Rattle.tabled.specs.Image.{Tabled, segment_in, segment_found}
-use Rattle.tabled.proofs.ByRow.{lookup-found, segments-at}
-use Rattle.lookups.specs.PairSearch.{has_pair}
+use Rattle.tabled.proofs.ByRow.{lookup-found}
 use Rattle.lookups.specs.Sides.{side}
 use Rattle.edges.specs.Links.{Tells, id_at, parent_at, parent_where, child_at, child_where, edge_where, each, row_links, rows_links}
 

@@ -3,14 +3,13 @@
 use Rattle.std.specs.Prelude.{ℕ, zero, suc, ◌+◌, ◌*◌, ◌≡◌, Bool, true, false, not, List, [], ◌∷◌, length, get_or}
 use Rattle.std.proofs.Math.Option.{some}
 use Rattle.lists.specs.Lists.{has}
-use Rattle.lists.specs.Sort.{Row}
 use Rattle.words.specs.Table.{ids, where_is}
 use Rattle.words.specs.declared.Found.{Found}
 use Rattle.words.specs.declared.Found.TheVariants.{At, Nothing}
 use Rattle.sorts.specs.Rows.{rows}
 use Rattle.lookups.specs.PairSearch.{has_pair, Ordered}
 use Rattle.answers.specs.declared.Judged.{Judged}
-use Rattle.answers.specs.declared.Judged.TheVariants.{Accepted, Refused}
+use Rattle.answers.specs.declared.Judged.TheVariants.{Accepted}
 use Rattle.answers.specs.Answer.{when, refuse2, ◌then◌}
 use Rattle.rules.specs.Model.{Segment, lookup}
 use Rattle.rules.specs.Tables.{held_width, optional, stretch, parents_at, children_at}

@@ -1,5 +1,7 @@
 // Edges: document 01, 24 to 27, over a table ascending by id. Each edge costs two searches: its other end's row by id, and the pair
 // in an index of the other side's lists.
+#![tactic(auto)]
+
 ghost use Rattle.std.specs.Prelude.{◌≡◌, true, false, not, ◌+◌, ◌*◌, ◌<◌, ◌≤◌, length};
 ghost use Rattle.words.specs.Table.{ids, where_is, Ascends};
 ghost use Rattle.sorts.specs.Rows.{rows};

@@ -1,5 +1,7 @@
 // What an update says beside its layout, and what it does to the session: whom it is for (40), an error or nothing in place of a layout (41, 42),
 // whether it is stale, and which names it brings.
+#![tactic(auto)]
+
 ghost use Rattle.std.specs.Prelude.{◌≡◌};
 ghost use Rattle.rules.specs.Update.{body_rule, address_rule, is_stale, kept_name, cleared_name};
 ghost use Rattle.envelope.specs.Parts.{text_or_none, session_holding, session_if};

@@ -1,7 +1,10 @@
 // The examples: what the leaf calls answer to good and bad input, a line each. The numbers are document 01's, and how many values
 // follow one is read from its fixed table.
+#![tactic(auto)]
+
 use answers::{Judged, Refusal};
 use shown::{text, word};
+use std::io;
 use types::limits::DagLimits;
 use types::range::{KeyRange, Made};
 use types::records::{Broker, Described, Optional, Placed, SegmentId, SegmentInfo};
@@ -9,97 +12,102 @@ use types::state::SegmentState;
 
 const ABSENT: Optional = Optional { flag: 0, word: 0 };
 
-fn refusal(r: Refusal) {
-    shown::refusal(r);
-    text(b"\n");
+fn refusal(rt: &impl Print, r: Refusal) -> io::Result<()> {
+    shown::refusal(rt, r)?;
+    text(rt, b"\n")
 }
 
-fn judged(label: &[u8], j: Judged) {
-    text(label);
+fn judged(rt: &impl Print, label: &[u8], j: Judged) -> io::Result<()> {
+    text(rt, label)?;
     match j {
-        Judged::Accepted => text(b" accepted\n"),
-        Judged::Refused(r) => refusal(r),
+        Judged::Accepted => text(rt, b" accepted\n"),
+        Judged::Refused(r) => refusal(rt, r),
     }
 }
 
-fn made(label: &[u8], m: Made) {
-    text(label);
+fn made(rt: &impl Print, label: &[u8], m: Made) -> io::Result<()> {
+    text(rt, label)?;
     match m {
         Made::Range(r) => {
-            text(b" length");
-            word(r.len());
+            text(rt, b" length")?;
+            word(rt, r.len())?;
         }
         Made::StartOutOfBounds(s) => {
-            word(10);
-            word(s);
+            word(rt, 10)?;
+            word(rt, s)?;
         }
         Made::EndOutOfBounds(e) => {
-            word(11);
-            word(e);
+            word(rt, 11)?;
+            word(rt, e)?;
         }
         Made::Reversed(s, e) => {
-            word(12);
-            word(s);
-            word(e);
+            word(rt, 12)?;
+            word(rt, s)?;
+            word(rt, e)?;
         }
     }
-    text(b"\n");
+    text(rt, b"\n")
 }
 
-fn described(label: &[u8], d: Described) {
-    text(label);
+fn described(rt: &impl Print, label: &[u8], d: Described) -> io::Result<()> {
+    text(rt, label)?;
     match d {
-        Described::Refused(r) => refusal(r),
+        Described::Refused(r) => refusal(rt, r)?,
         Described::Descriptor(s) => {
-            text(b" url");
-            word(s.url.flag);
-            word(s.url.word);
-            text(b" tls");
-            word(s.tls.flag);
-            word(s.tls.word);
-            text(b"\n");
+            text(rt, b" url")?;
+            word(rt, s.url.flag)?;
+            word(rt, s.url.word)?;
+            text(rt, b" tls")?;
+            word(rt, s.tls.flag)?;
+            word(rt, s.tls.word)?;
+            text(rt, b"\n")?;
         }
     }
+    Ok(())
 }
 
-fn truth(label: &[u8], t: bool) {
-    text(label);
+fn truth(rt: &impl Print, label: &[u8], t: bool) -> io::Result<()> {
+    text(rt, label)?;
     if t {
-        text(b" yes\n");
+        text(rt, b" yes\n")
     } else {
-        text(b" no\n");
+        text(rt, b" no\n")
     }
 }
 
-fn ranges() {
-    made(b"range 0..65535", KeyRange::new(0, 65535));
-    made(b"range 65535..65535", KeyRange::new(65535, 65535));
-    made(b"range 65536..65535", KeyRange::new(65536, 65535));
-    made(b"range 0..65536", KeyRange::new(0, 65536));
-    made(b"range 5..4", KeyRange::new(5, 4));
+fn ranges(rt: &impl Print) -> io::Result<()> {
+    made(rt, b"range 0..65535", KeyRange::new(0, 65535))?;
+    made(rt, b"range 65535..65535", KeyRange::new(65535, 65535))?;
+    made(rt, b"range 65536..65535", KeyRange::new(65536, 65535))?;
+    made(rt, b"range 0..65536", KeyRange::new(0, 65536))?;
+    made(rt, b"range 5..4", KeyRange::new(5, 4))
 }
 
-fn two_ranges(low: KeyRange, high: KeyRange) {
+fn two_ranges(rt: &impl Print, low: KeyRange, high: KeyRange) -> io::Result<()> {
     truth(
+        rt,
         b"0..32767 is next to 32768..65535:",
         low.is_adjacent_to(high),
-    );
+    )?;
     truth(
+        rt,
         b"32768..65535 is next to 0..32767:",
         high.is_adjacent_to(low),
-    );
+    )?;
     truth(
+        rt,
         b"32768..65535 is next to itself:",
         high.is_adjacent_to(high),
-    );
-    truth(b"0..65535 holds 65535:", KeyRange::FULL.contains(65535));
+    )?;
+    truth(rt, b"0..65535 holds 65535:", KeyRange::FULL.contains(65535))?;
     truth(
+        rt,
         b"0..65535 holds all of 0..32767:",
         KeyRange::FULL.contains_range(low),
-    );
+    )
 }
 
-fn halves() {
+fn halves(rt: &impl Print) -> io::Result<()> {
     let low = KeyRange {
         start: 0,
         end: 32767,
@@ -108,52 +116,61 @@ fn halves() {
         start: 32768,
         end: 65535,
     };
-    two_ranges(low, high);
+    two_ranges(rt, low, high)
 }
 
-fn lists() {
+fn lists(rt: &impl Print) -> io::Result<()> {
     let repeated = [7, 8, 7u64];
     let own = [7, 5, 7u64];
     judged(
+        rt,
         b"parents 7,8,7 of 5:",
         segment::list::judge_list(SegmentId(5), 20, &repeated),
-    );
+    )?;
     judged(
+        rt,
         b"parents 7,5,7 of 5:",
         segment::list::judge_list(SegmentId(5), 20, &own),
-    );
+    )?;
     judged(
+        rt,
         b"children 7,8 of 5:",
         segment::list::judge_list(SegmentId(5), 21, &repeated[0..2]),
-    );
+    )?;
     judged(
+        rt,
         b"children 8,7 of 5, mid-table:",
         segment::list::judge_list(SegmentId(5), 21, &repeated[1..3]),
-    );
+    )
 }
 
-fn lifecycles() {
+fn lifecycles(rt: &impl Print) -> io::Result<()> {
     let at_five = Optional { flag: 1, word: 5 };
     judged(
+        rt,
         b"Active, created 3, layout 4:",
         segment::lifecycle::judge_lifecycle(4, SegmentId(1), SegmentState::Active, 3, ABSENT, 0),
-    );
+    )?;
     judged(
+        rt,
         b"Active, created 5, layout 4:",
         segment::lifecycle::judge_lifecycle(4, SegmentId(1), SegmentState::Active, 5, ABSENT, 0),
-    );
+    )?;
     judged(
+        rt,
         b"Active with a seal:",
         segment::lifecycle::judge_lifecycle(9, SegmentId(1), SegmentState::Active, 3, at_five, 0),
-    );
+    )?;
     judged(
+        rt,
         b"Sealed without one:",
         segment::lifecycle::judge_lifecycle(9, SegmentId(1), SegmentState::Sealed, 3, ABSENT, 0),
-    );
+    )?;
     judged(
+        rt,
         b"Sealed at 5, layout 4:",
         segment::lifecycle::judge_lifecycle(4, SegmentId(1), SegmentState::Sealed, 3, at_five, 0),
-    );
+    )
 }
 
 // Segment 1, Active, with that range, state and legacy text.
@@ -179,53 +196,60 @@ fn placed_at(id: u64) -> Placed {
     })
 }
 
-fn descriptors() {
+fn descriptors(rt: &impl Print) -> io::Result<()> {
     let empty = Optional { flag: 1, word: 0 };
     let odd = Optional { flag: 2, word: 0 };
     described(
+        rt,
         b"a placement with an unread TLS word:",
         segment::descriptor::describe(info(0, 65535, 1, ABSENT), placed_at(1)),
-    );
+    )?;
     described(
+        rt,
         b"another segment's placement:",
         segment::descriptor::describe(info(0, 65535, 1, ABSENT), placed_at(2)),
-    );
+    )?;
     described(
+        rt,
         b"empty legacy and bad range:",
         segment::descriptor::describe(info(65536, 0, 1, empty), Placed::Nowhere),
-    );
+    )?;
     described(
+        rt,
         b"a range past the last hash:",
         segment::descriptor::describe(info(0, 65536, 1, ABSENT), Placed::Nowhere),
-    );
+    )?;
     described(
+        rt,
         b"state 3:",
         segment::descriptor::describe(info(0, 65535, 3, ABSENT), Placed::Nowhere),
-    );
+    )?;
     described(
+        rt,
         b"a flag of 2:",
         segment::descriptor::describe(info(0, 65535, 1, odd), Placed::Nowhere),
-    );
+    )?;
     described(
+        rt,
         b"a hash of 33 bits:",
         segment::descriptor::describe(info(4294967296, 65535, 1, ABSENT), Placed::Nowhere),
-    );
+    )
 }
 
-fn limits(l: DagLimits) {
-    text(b"default limits:");
-    word(l.segments);
-    word(l.edges);
-    word(l.depth);
-    word(l.size);
-    text(b"\n");
+fn limits(rt: &impl Print, l: DagLimits) -> io::Result<()> {
+    text(rt, b"default limits:")?;
+    word(rt, l.segments)?;
+    word(rt, l.edges)?;
+    word(rt, l.depth)?;
+    word(rt, l.size)?;
+    text(rt, b"\n")
 }
 
-fn main() {
-    ranges();
-    halves();
-    lists();
-    lifecycles();
-    descriptors();
-    limits(DagLimits::DEFAULT);
+fn main(rt: HostRuntime) -> io::Result<()> {
+    ranges(&rt)?;
+    halves(&rt)?;
+    lists(&rt)?;
+    lifecycles(&rt)?;
+    descriptors(&rt)?;
+    limits(&rt, DagLimits::DEFAULT)
 }

@@ -3,20 +3,17 @@
 use Prim.Native.Nat.{ℕ, ◌+◌, ◌-◌, ◌*◌, ◌<◌, ◌≤◌}
 use native.Mathlib.Omega.{arith}
 use mathlib.Core.Path.{◌≡◌, refl, sym, ap, ◌∙◌}
-use mathlib.Core.Option.{Option, some}
-use mathlib.Core.List.{List, []}
+use mathlib.Core.List.{List}
 use lib.ListN.{length, take, drop}
 use Rattle.words.specs.Part.{part}
 use Rattle.words.specs.declared.Found.{Found}
 use Rattle.words.specs.declared.Found.TheVariants.{At, Nothing}
 use Rattle.answers.specs.declared.Refusal.{Refusal}
-use Rattle.rules.specs.Model.{Segment}
 use Rattle.rules.specs.Tables.{held_width, start_of, stretch, parents_at, children_at, edges_from}
 use Rattle.rules.specs.Ordering as O
 use Rattle.rules.specs.Ordering.{known_rule, parent_stretch, child_stretch}
 use Rattle.rules.proofs.Places.{start-room}
-use Rattle.tabled.specs.Image.{segment_in}
-use Rattle.ordering.specs.Rows.{known_row, Fit}
+use Rattle.ordering.specs.Rows.{known_row}
 use Rattle.ordering.proofs.Stretches.{known-fit, stretch-found, stretch-nothing}
 use Rattle.host.specs.declared.stretch.RowEdges.{RowEdges}
 use Rattle.crossing.specs.Told.{refusal_of}

@@ -12,7 +12,7 @@ use answers::Refusal;
 use types::records::Assigned;
 
 // Where the walk stands: the next record, and the answer so far.
-#[derive(Drop)]
+#[derive(Clone, Copy)]
 struct Turn {
     next: usize,
     answer: Refusal,

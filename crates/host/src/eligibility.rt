@@ -31,10 +31,10 @@ pub extern "C" fn threshpetal_ordering_eligibility(
     first: &mut [u64],
     second: &mut [u64],
 ) -> OrderingWords
-    ensures value { result ≡ ordering_words (ordering_of (query rows.now edges.now h g (mode_of managed) segment history.now completed.now (record { work = length work.entry.now; first = first.old; second = second.old }))) }
-    ensures first_after { first.new ≡ first_after (query rows.now edges.now h g (mode_of managed) segment history.now completed.now (record { work = length work.entry.now; first = first.old; second = second.old })) first.old }
-    ensures second_after { second.new ≡ second_after (query rows.now edges.now h g (mode_of managed) segment history.now completed.now (record { work = length work.entry.now; first = first.old; second = second.old })) second.old }
-    ensures work_value { work.exit.now ≡ order_work_after (query rows.now edges.now h g (mode_of managed) segment history.now completed.now (record { work = length work.entry.now; first = first.old; second = second.old })) work.entry.now }
+    ensures value { result ≡ ordering_words (ordering_of (query rows.now edges.now h g (mode_of managed) segment history.now completed.now (record { work = length work.old; first = first.old; second = second.old }))) }
+    ensures first_after { first.new ≡ first_after (query rows.now edges.now h g (mode_of managed) segment history.now completed.now (record { work = length work.old; first = first.old; second = second.old })) first.old }
+    ensures second_after { second.new ≡ second_after (query rows.now edges.now h g (mode_of managed) segment history.now completed.now (record { work = length work.old; first = first.old; second = second.old })) second.old }
+    ensures work_value { work.new ≡ order_work_after (query rows.now edges.now h g (mode_of managed) segment history.now completed.now (record { work = length work.old; first = first.old; second = second.old })) work.old }
 {
     let mode = mode_of(managed);
     let answer = ordering::ordering_eligibility(

@@ -13,7 +13,7 @@ use words::Found;
 
 // 1 or 50, or where the stretch begins in the held edges and how many ids it has.
 #[repr(C)]
-#[derive(Drop)]
+#[derive(Clone, Copy)]
 pub struct Stretch {
     pub refusal: Refusal,
     pub start: usize,
@@ -21,7 +21,7 @@ pub struct Stretch {
 }
 
 // Where the edges of a row begin; its parents stand first, its children after them.
-#[derive(Drop)]
+#[derive(Clone, Copy)]
 struct RowEdges {
     start: usize,
     parents: usize,

@@ -9,7 +9,7 @@ use types::limits::DagLimits;
 use types::records::{Session, Update};
 
 // What an update answers, and the session after it.
-#[derive(Drop)]
+#[derive(Clone, Copy)]
 pub struct HostOutcome {
     pub session: Session,
     pub answer: UpdatedWords,

@@ -19,7 +19,7 @@ use Rattle.lists.proofs.SortLaws.{In}
 use Rattle.words.specs.Part.{part, put}
 use Rattle.words.specs.Table.{ids, Ascends}
 use Rattle.words.proofs.PartLaws.{part-as, part-put, part_in, length-put}
-use Rattle.sorts.specs.Heap.{row0, at}
+use Rattle.sorts.specs.Heap.{row0}
 use Rattle.rules.specs.Model.{Segment, Placement, by_id, ids_of}
 use Rattle.rules.specs.Tables.{row_width, held_width, parents_at, children_at, segments_from, segments, edges_from, held_rows, held_edges}
 use Rattle.rules.proofs.HeldSegments.{held-segments, count-edges}

@@ -1,5 +1,7 @@
 // The image of a layout at the front of the work area: held rows ascending by id and then their edges, written from the input tables by
 // the indexes that lie behind it; and its copy into the held areas.
+#![tactic(auto)]
+
 ghost use Rattle.std.specs.Prelude.{◌≡◌, ◌++◌, ◌+◌, ◌*◌, ◌≤◌, length};
 ghost use Rattle.lists.specs.Lists.{front};
 ghost use Rattle.words.specs.Part.{part, put};

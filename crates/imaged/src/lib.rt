@@ -1,5 +1,7 @@
 // 24 to 35 over the image of a layout at the front of the work area: edges, order, splits and merges, coverage, one after the other in the
 // scratch behind it. The image stays, and an accepted layout leaves its order in the scratch.
+#![tactic(auto)]
+
 ghost use Rattle.std.specs.Prelude.{◌≡◌, ◌+◌, ◌*◌, take};
 ghost use Rattle.words.specs.Part.{part};
 ghost use Rattle.answers.specs.declared.Judged.TheVariants.{Accepted};

@@ -1,6 +1,6 @@
 -- The work area once rows and placements have passed: both indexes stand there for the image (ready), and they are what 23 asks for.
 -- By the laws of parts: w is the area at first, w₁ with the index of the placements, w₂ with that of the rows as well. Assumes nothing.
-use Prim.Native.Nat.{ℕ, ◌+◌, ◌-◌, ◌*◌, ◌≤◌}
+use Prim.Native.Nat.{ℕ, ◌-◌, ◌*◌, ◌≤◌}
 use native.Mathlib.Omega.{arith}
 use mathlib.Core.Path.{◌≡◌, refl, sym, ap, ◌∙◌}
 use mathlib.Core.List.{List}

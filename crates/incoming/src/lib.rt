@@ -1,4 +1,6 @@
 // The checks of a layout's input tables, row by row (3 to 23), in the scratch part of one work area; both indexes stay there for the image.
+#![tactic(auto)]
+
 ghost use Rattle.std.specs.Prelude.{◌≡◌, ◌+◌, ◌-◌, ◌*◌, ◌≤◌, length};
 ghost use Rattle.words.specs.Part.{part};
 ghost use Rattle.sorts.specs.Rows.{rows};

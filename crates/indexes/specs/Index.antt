@@ -1,6 +1,6 @@
 -- Indexes: rows of three words (id, row number, where its edges begin), ascending. Made of the input tables, in a part of the work area.
 -- Assumes nothing.
-use Rattle.std.specs.Prelude.{ℕ, zero, suc, ◌+◌, ◌*◌, ◌<◌, ◌≡◌, List, [], ◌∷◌, get_or}
+use Rattle.std.specs.Prelude.{ℕ, zero, suc, ◌+◌, ◌*◌, List, [], ◌∷◌, get_or}
 use Rattle.lists.specs.Sort.{Row, le3, sorted}
 use Rattle.rules.specs.Tables.{row_width, place_width, parents_at, children_at}
 

@@ -1,4 +1,6 @@
 // Indexes of the input tables, in lent words, in time n log n: rows of three words (id, row number, where its edges begin), ascending by id.
+#![tactic(auto)]
+
 ghost use Rattle.std.specs.Prelude.{◌≡◌, ◌+◌, ◌*◌, ◌≤◌, ◌<◌, length};
 ghost use Rattle.sorts.specs.Rows.{rows};
 ghost use Rattle.rules.specs.Tables.{row_width, place_width, edges_from};

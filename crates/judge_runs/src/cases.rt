@@ -3,39 +3,46 @@ ghost use Rattle.std.specs.Prelude.{◌≤◌};
 
 use answers::Judged;
 use shown::{SPARE, text, word};
+use std::io;
 use types::limits::DagLimits;
 
-fn judged(label: &[u8], j: Judged) {
-    text(label);
+fn judged(rt: &impl Print, label: &[u8], j: Judged) -> io::Result<()> {
+    text(rt, label)?;
     match j {
-        Judged::Accepted => text(b" accepted"),
-        Judged::Refused(r) => shown::refusal(r),
+        Judged::Accepted => text(rt, b" accepted"),
+        Judged::Refused(r) => shown::refusal(rt, r),
     }
 }
 
-fn count(label: &[u8], area: &[u64]) {
-    text(label);
-    word(shown::others(area, SPARE));
+fn count(rt: &impl Print, label: &[u8], area: &[u64]) -> io::Result<()> {
+    text(rt, label)?;
+    word(rt, shown::others(area, SPARE))
 }
 
-fn worked(work: &[u64]) {
-    count(b", work", work);
-    text(b" of");
-    word(work.len() as u64);
-    text(b"; work not zero");
-    word(shown::others(work, 0));
-    text(b"\n");
+fn worked(rt: &impl Print, work: &[u64]) -> io::Result<()> {
+    count(rt, b", work", work)?;
+    text(rt, b" of")?;
+    word(rt, work.len() as u64)?;
+    text(rt, b"; work not zero")?;
+    word(rt, shown::others(work, 0))?;
+    text(rt, b"\n")
 }
 
-fn changed(work: &[u64], held: &[u64], links: &[u64], order: &[u64]) {
-    count(b"; changed: held rows", held);
-    count(b", edges", links);
-    count(b", order", order);
-    worked(work);
+fn changed(
+    rt: &impl Print,
+    work: &[u64],
+    held: &[u64],
+    links: &[u64],
+    order: &[u64],
+) -> io::Result<()> {
+    count(rt, b"; changed: held rows", held)?;
+    count(rt, b", edges", links)?;
+    count(rt, b", order", order)?;
+    worked(rt, work)
 }
 
 // The first and the last id of an order area; zeros where it has no word.
-#[derive(Drop)]
+#[derive(Clone, Copy)]
 pub struct Ends {
     pub first: u64,
     pub last: u64,
@@ -53,6 +60,7 @@ fn ends_of(order: &[u64]) -> Ends {
 
 // Under the default limits.
 fn judge(
+    rt: &impl Print,
     label: &[u8],
     epoch: u64,
     rows: &[u64],
@@ -62,11 +70,11 @@ fn judge(
     held: &mut [u64],
     links: &mut [u64],
     order: &mut [u64],
-) -> Ends {
+) -> io::Result<Ends> {
     let j = layout::judge_layout(epoch, 60, rows, edges, places, work, held, links, order);
-    judged(label, j);
-    changed(work, held, links, order);
-    ends_of(order)
+    judged(rt, label, j)?;
+    changed(rt, work, held, links, order)?;
+    Ok(ends_of(order))
 }
 
 // The largest areas come from functions, so that no proof has their words before it.
@@ -84,6 +92,7 @@ fn spare_order() -> [u64; 4097] {
 
 // In areas of so many words.
 pub fn in_room(
+    rt: &impl Print,
     label: &[u8],
     epoch: u64,
     rows: &[u64],
@@ -93,7 +102,7 @@ pub fn in_room(
     h: usize,
     l: usize,
     o: usize,
-) -> Ends
+) -> io::Result<Ends>
     requires w_bound { w ≤ 131136 }
     requires h_bound { h ≤ 61455 }
     requires l_bound { l ≤ 514 }
@@ -104,6 +113,7 @@ pub fn in_room(
     let mut links = [SPARE; 514];
     let mut order = spare_order();
     judge(
+        rt,
         label,
         epoch,
         rows,
@@ -117,24 +127,45 @@ pub fn in_room(
 }
 
 // In room for three rows and eight edge words.
-pub fn usual(label: &[u8], epoch: u64, rows: &[u64], edges: &[u64], places: &[u64]) {
-    in_room(label, epoch, rows, edges, places, 384, 45, 8, 3);
+pub fn usual(
+    rt: &impl Print,
+    label: &[u8],
+    epoch: u64,
+    rows: &[u64],
+    edges: &[u64],
+    places: &[u64],
+) -> io::Result<()> {
+    in_room(rt, label, epoch, rows, edges, places, 384, 45, 8, 3)?;
+    Ok(())
 }
 
 // One segment, with no edges and no placement.
-pub fn alone(label: &[u8], row: [u64; 11]) {
+pub fn alone(rt: &impl Print, label: &[u8], row: [u64; 11]) -> io::Result<()> {
     let none = [0u64; 0];
-    usual(label, 0, &row, &none, &none);
+    usual(rt, label, 0, &row, &none, &none)
 }
 
 // Two segments, with no placement.
-pub fn pair(label: &[u8], epoch: u64, rows: [u64; 22], edges: &[u64]) {
+pub fn pair(
+    rt: &impl Print,
+    label: &[u8],
+    epoch: u64,
+    rows: [u64; 22],
+    edges: &[u64],
+) -> io::Result<()> {
     let none = [0u64; 0];
-    usual(label, epoch, &rows, edges, &none);
+    usual(rt, label, epoch, &rows, edges, &none)
 }
 
 // Under the caller's limits, in the same room.
-pub fn limited(label: &[u8], epoch: u64, limits: DagLimits, rows: &[u64], edges: &[u64]) {
+pub fn limited(
+    rt: &impl Print,
+    label: &[u8],
+    epoch: u64,
+    limits: DagLimits,
+    rows: &[u64],
+    edges: &[u64],
+) -> io::Result<()> {
     let none = [0u64; 0];
     let mut work = [SPARE; 384];
     let mut held = [SPARE; 45];
@@ -143,14 +174,14 @@ pub fn limited(label: &[u8], epoch: u64, limits: DagLimits, rows: &[u64], edges:
     let j = layout::judge_layout_with_limits(
         epoch, 60, limits, rows, edges, &none, &mut work, &mut held, &mut links, &mut order,
     );
-    judged(label, j);
-    changed(&work, &held, &links, &order);
+    judged(rt, label, j)?;
+    changed(rt, &work, &held, &links, &order)
 }
 
-pub fn order_from(e: Ends) {
-    text(b"order from");
-    word(e.first);
-    text(b" to");
-    word(e.last);
-    text(b"\n");
+pub fn order_from(rt: &impl Print, e: Ends) -> io::Result<()> {
+    text(rt, b"order from")?;
+    word(rt, e.first)?;
+    text(rt, b" to")?;
+    word(rt, e.last)?;
+    text(rt, b"\n")
 }

@@ -24,12 +24,8 @@ fn sealed_row(rows: &mut [u64], at: usize, created: u64)
 fn fill_chain(rows: &mut [u64], n: u64)
     requires { n ≤ 5000 }
 {
-    let mut i = 0u64;
-    let mut at = 0;
-    while i < n {
-        sealed_row(rows, at, i);
-        i += 1;
-        at += 11;
+    for i in 0..n {
+        sealed_row(rows, 11 * i as usize, i);
     }
 }
 
@@ -51,12 +47,8 @@ fn link(edges: &mut [u64], at: usize, i: u64)
 fn fill_links(edges: &mut [u64], n: u64)
     requires { n ≤ 5000 }
 {
-    let mut i = 0u64;
-    let mut at = 0;
-    while i < n {
-        link(edges, at, i);
-        i += 1;
-        at += 2;
+    for i in 0..n {
+        link(edges, 2 * i as usize, i);
     }
 }
 
@@ -80,12 +72,8 @@ fn active_row(rows: &mut [u64], at: usize, id: u64, start: u64)
 pub fn actives(rows: &mut [u64], n: u64)
     requires { n ≤ 5000 }
 {
-    let mut i = 0u64;
-    let mut at = 0;
-    while i < n {
-        active_row(rows, at, n - i, i * 16);
-        i += 1;
-        at += 11;
+    for i in 0..n {
+        active_row(rows, 11 * i as usize, n - i, i * 16);
     }
 }
 
@@ -100,11 +88,7 @@ fn placed_row(places: &mut [u64], at: usize, i: u64)
 pub fn placements(places: &mut [u64], n: u64)
     requires { n ≤ 5000 }
 {
-    let mut i = 0u64;
-    let mut at = 0;
-    while i < n {
-        placed_row(places, at, i);
-        i += 1;
-        at += 4;
+    for i in 0..n {
+        placed_row(places, 4 * i as usize, i);
     }
 }

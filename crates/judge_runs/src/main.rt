@@ -1,7 +1,10 @@
 // The compiled judge, run: what `judge_layout` and `judge_layout_with_limits` answer to whole layouts, a line each, with how many words
 // of the lent areas were changed. The areas are filled with a word that no table has, so that a changed word can be seen.
+#![tactic(auto)]
+
 ghost use Rattle.std.specs.Prelude.{◌≤◌};
 
+use std::io;
 use types::limits::DagLimits;
 
 mod cases;
@@ -24,77 +27,79 @@ const ONE_EDGE: DagLimits = DagLimits {
 
 // ---- no row, one and two
 
-fn no_rows() {
+fn no_rows(rt: &impl Print) -> io::Result<()> {
     let none = [0u64; 0];
-    cases::usual(b"no rows:", 0, &none, &none, &none);
+    cases::usual(rt, b"no rows:", 0, &none, &none, &none)
 }
 
-fn placed_twice() {
+fn placed_twice(rt: &impl Print) -> io::Result<()> {
     let none = [0u64; 0];
     let full = tables::FULL;
     let twice = [1, 5, 0, 0, 1, 0, 0, 0u64];
-    cases::usual(b"two placements of one id:", 0, &full, &none, &twice);
+    cases::usual(rt, b"two placements of one id:", 0, &full, &none, &twice)
 }
 
-fn ones() {
-    cases::alone(b"one Active 0..65535:", tables::FULL);
-    no_rows();
-    cases::alone(b"0..65534 alone:", tables::GAP);
-    cases::alone(b"start 65536:", tables::START);
-    cases::alone(b"empty legacy and bad range:", tables::LEGACY);
-    placed_twice();
-    cases::alone(b"a flag of 2:", tables::FLAG);
+fn ones(rt: &impl Print) -> io::Result<()> {
+    cases::alone(rt, b"one Active 0..65535:", tables::FULL)?;
+    no_rows(rt)?;
+    cases::alone(rt, b"0..65534 alone:", tables::GAP)?;
+    cases::alone(rt, b"start 65536:", tables::START)?;
+    cases::alone(rt, b"empty legacy and bad range:", tables::LEGACY)?;
+    placed_twice(rt)?;
+    cases::alone(rt, b"a flag of 2:", tables::FLAG)
 }
 
-fn overlapping() {
+fn overlapping(rt: &impl Print) -> io::Result<()> {
     let none = [0u64; 0];
-    cases::pair(b"ids 1 and 2 both 0..65535:", 0, tables::BOTH, &none);
+    cases::pair(rt, b"ids 1 and 2 both 0..65535:", 0, tables::BOTH, &none)
 }
 
-fn ring() {
+fn ring(rt: &impl Print) -> io::Result<()> {
     let links = tables::RING_LINKS;
     cases::pair(
+        rt,
         b"two Sealed, each the other's parent and child:",
         1,
         tables::RING,
         &links,
-    );
+    )
 }
 
-fn short_ring() {
+fn short_ring(rt: &impl Print) -> io::Result<()> {
     let links = tables::RING_LINKS;
     cases::pair(
+        rt,
         b"the same, the edge table one word short:",
         1,
         tables::RING,
         &links[0..3],
-    );
+    )
 }
 
 // ---- chains of two and three under limits
 
-fn two(label: &[u8], limits: DagLimits) {
+fn two(rt: &impl Print, label: &[u8], limits: DagLimits) -> io::Result<()> {
     let rows = tables::TWO;
     let links = tables::TWO_LINKS;
-    cases::limited(label, 1, limits, &rows, &links);
+    cases::limited(rt, label, 1, limits, &rows, &links)
 }
 
-fn three(label: &[u8], limits: DagLimits) {
+fn three(rt: &impl Print, label: &[u8], limits: DagLimits) -> io::Result<()> {
     let rows = tables::THREE;
     let links = tables::THREE_LINKS;
-    cases::limited(label, 2, limits, &rows, &links);
+    cases::limited(rt, label, 2, limits, &rows, &links)
 }
 
-fn chains() {
-    two(b"depth 1, chain of 2:", DEPTH_ONE);
-    three(b"depth 1, chain of 3:", DEPTH_ONE);
-    two(b"one edge, chain of 2:", ONE_EDGE);
-    three(b"one edge, chain of 3:", ONE_EDGE);
+fn chains(rt: &impl Print) -> io::Result<()> {
+    two(rt, b"depth 1, chain of 2:", DEPTH_ONE)?;
+    three(rt, b"depth 1, chain of 3:", DEPTH_ONE)?;
+    two(rt, b"one edge, chain of 2:", ONE_EDGE)?;
+    three(rt, b"one edge, chain of 3:", ONE_EDGE)
 }
 
 // ---- room: a chain of two needs 128 words of work, 30 of held rows, 2 of held edges and 2 of order
 
-fn two_in(label: &[u8], w: usize, h: usize, l: usize, o: usize)
+fn two_in(rt: &impl Print, label: &[u8], w: usize, h: usize, l: usize, o: usize) -> io::Result<()>
     requires w_bound { w ≤ 131136 }
     requires h_bound { h ≤ 61455 }
     requires l_bound { l ≤ 514 }
@@ -103,25 +108,27 @@ fn two_in(label: &[u8], w: usize, h: usize, l: usize, o: usize)
     let none = [0u64; 0];
     let rows = tables::TWO;
     let edges = tables::TWO_LINKS;
-    cases::in_room(label, 1, &rows, &edges, &none, w, h, l, o);
+    cases::in_room(rt, label, 1, &rows, &edges, &none, w, h, l, o)?;
+    Ok(())
 }
 
-fn rooms() {
-    two_in(b"exact room:", 128, 30, 2, 2);
-    two_in(b"work one word short:", 127, 30, 2, 2);
-    two_in(b"held rows one word short:", 128, 29, 2, 2);
-    two_in(b"held edges one word short:", 128, 30, 1, 2);
-    two_in(b"order one word short:", 128, 30, 2, 1);
+fn rooms(rt: &impl Print) -> io::Result<()> {
+    two_in(rt, b"exact room:", 128, 30, 2, 2)?;
+    two_in(rt, b"work one word short:", 127, 30, 2, 2)?;
+    two_in(rt, b"held rows one word short:", 128, 29, 2, 2)?;
+    two_in(rt, b"held edges one word short:", 128, 30, 1, 2)?;
+    two_in(rt, b"order one word short:", 128, 30, 2, 1)
 }
 
 // ---- tables that loops fill
 
-fn deepest_chain() {
+fn deepest_chain(rt: &impl Print) -> io::Result<()> {
     let none = [0u64; 0];
     let mut rows = [0u64; 2827];
     let mut edges = [0u64; 512];
     filled::chain(&mut rows, &mut edges, 256, 2816);
     let ends = cases::in_room(
+        rt,
         b"chain of 257:",
         256,
         &rows,
@@ -131,16 +138,17 @@ fn deepest_chain() {
         3855,
         512,
         257,
-    );
-    cases::order_from(ends);
+    )?;
+    cases::order_from(rt, ends)
 }
 
-fn deeper_chain() {
+fn deeper_chain(rt: &impl Print) -> io::Result<()> {
     let none = [0u64; 0];
     let mut rows = [0u64; 2838];
     let mut edges = [0u64; 514];
     filled::chain(&mut rows, &mut edges, 257, 2827);
     cases::in_room(
+        rt,
         b"chain of 258:",
         257,
         &rows,
@@ -150,14 +158,16 @@ fn deeper_chain() {
         3870,
         514,
         258,
-    );
+    )?;
+    Ok(())
 }
 
-fn most_rows() {
+fn most_rows(rt: &impl Print) -> io::Result<()> {
     let none = [0u64; 0];
     let mut rows = [0u64; 45056];
     filled::actives(&mut rows, 4096);
     let ends = cases::in_room(
+        rt,
         b"4096 rows of 16 hashes:",
         0,
         &rows,
@@ -167,15 +177,16 @@ fn most_rows() {
         61440,
         0,
         4096,
-    );
-    cases::order_from(ends);
+    )?;
+    cases::order_from(rt, ends)
 }
 
-fn too_many_rows() {
+fn too_many_rows(rt: &impl Print) -> io::Result<()> {
     let none = [0u64; 0];
     let mut rows = [0u64; 45067];
     filled::actives(&mut rows, 4097);
     cases::in_room(
+        rt,
         b"4097 rows:",
         0,
         &rows,
@@ -185,15 +196,17 @@ fn too_many_rows() {
         61455,
         0,
         4097,
-    );
+    )?;
+    Ok(())
 }
 
-fn too_many_places() {
+fn too_many_places(rt: &impl Print) -> io::Result<()> {
     let none = [0u64; 0];
     let row = tables::FULL;
     let mut places = [0u64; 16388];
     filled::placements(&mut places, 4097);
     cases::in_room(
+        rt,
         b"4097 placements:",
         0,
         &row,
@@ -203,19 +216,20 @@ fn too_many_places() {
         15,
         0,
         1,
-    );
+    )?;
+    Ok(())
 }
 
-fn main() {
-    ones();
-    overlapping();
-    ring();
-    short_ring();
-    chains();
-    rooms();
-    deepest_chain();
-    deeper_chain();
-    most_rows();
-    too_many_rows();
-    too_many_places();
+fn main(rt: HostRuntime) -> io::Result<()> {
+    ones(&rt)?;
+    overlapping(&rt)?;
+    ring(&rt)?;
+    short_ring(&rt)?;
+    chains(&rt)?;
+    rooms(&rt)?;
+    deepest_chain(&rt)?;
+    deeper_chain(&rt)?;
+    most_rows(&rt)?;
+    too_many_rows(&rt)?;
+    too_many_places(&rt)
 }

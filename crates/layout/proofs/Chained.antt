@@ -2,17 +2,17 @@
 -- Assumes nothing.
 use Prim.Native.Nat.{ℕ, ◌+◌, ◌*◌, ◌≤◌}
 use native.Mathlib.Omega.{arith}
-use mathlib.Core.Path.{◌≡◌, refl, sym, ap, ◌∙◌}
+use mathlib.Core.Path.{◌≡◌, refl, sym, ◌∙◌}
 use mathlib.Core.List.{List}
 use lib.ListN.{length, take}
 use Rattle.words.specs.Part.{part}
 use Rattle.answers.specs.declared.Refusal.{Refusal}
 use Rattle.answers.specs.declared.Judged.{Judged}
 use Rattle.answers.specs.declared.Judged.TheVariants.{Accepted, Refused}
-use Rattle.answers.specs.Answer.{◌then◌, refuse0}
+use Rattle.answers.specs.Answer.{refuse0}
 use Rattle.types.specs.declared.limits.DagLimits.{DagLimits}
 use Rattle.rules.specs.Model.{Segment, Placement}
-use Rattle.rules.specs.Tables.{row_width, held_width, place_width, segments, placements}
+use Rattle.rules.specs.Tables.{held_width, segments}
 use Rattle.rules.specs.Order.{order_of, order_words}
 use Rattle.rules.specs.Layout.{graph_rule, layout_rule}
 use Rattle.tabled.proofs.Kept.{rows-kept, edges-kept, segments-kept, image-kept}

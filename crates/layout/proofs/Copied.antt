@@ -2,14 +2,12 @@
 -- Assumes nothing.
 use Prim.Native.Nat.{ℕ, ◌+◌, ◌*◌, ◌≤◌}
 use native.Mathlib.Omega.{arith}
-use mathlib.Core.Path.{◌≡◌, refl, sym, ap, ◌∙◌}
+use mathlib.Core.Path.{◌≡◌}
 use mathlib.Core.List.{List, ◌++◌}
-use lib.ListN.{length, length-append}
-use Rattle.lists.specs.Lists.{front}
-use Rattle.words.specs.Part.{part, put}
+use lib.ListN.{length}
+use Rattle.words.specs.Part.{put}
 use Rattle.words.specs.Twins.{NoTwins}
-use Rattle.words.proofs.PartLaws.{length-put}
-use Rattle.rules.specs.Model.{Segment, Placement}
+use Rattle.rules.specs.Model.{Placement}
 use Rattle.rules.specs.Tables.{row_width, held_width, edges_from, segments, placements, held_rows, held_edges}
 use Rattle.image.specs.Written.{Ready}
 use Rattle.image.proofs.Laid.{image-rows, image-edges, image-segments, image-laid}

@@ -2,12 +2,11 @@
 -- Assumes nothing.
 use Prim.Native.Nat.{ℕ, ◌/◌}
 use mathlib.Core.Path.{◌≡◌, refl, sym, ap, ◌∙◌}
-use mathlib.Core.Bool.{Bool, true, false, cond, not, ◌&&◌}
+use mathlib.Core.Bool.{Bool, true, false}
 use mathlib.Core.List.{List}
 use lib.ListN.{length, replicate}
 use Rattle.lists.specs.Lists.{front}
 use Rattle.words.specs.Part.{part}
-use Rattle.answers.specs.declared.Refusal.{Refusal}
 use Rattle.answers.specs.declared.Judged.{Judged}
 use Rattle.answers.specs.declared.Judged.TheVariants.{Accepted, Refused}
 use Rattle.answers.specs.Answer.{refuse0}
@@ -16,12 +15,12 @@ use Rattle.rules.specs.Tables.{row_width, place_width, segments, placements}
 use Rattle.rules.specs.Shape.{bad_layout}
 use Rattle.rules.specs.Room.{no_room_to_judge}
 use Rattle.rules.specs.Layout.{layout_rule}
-use Rattle.rules.specs.Judge.{Tables, Areas, judgement, filled, areas_after, past_room, cleared_if, work_after}
+use Rattle.rules.specs.Judge.{Tables, Areas, judgement, filled, areas_after, past_room}
 use Rattle.tabled.specs.Image.{image_rows, image_edges}
 use native.Mathlib.Omega.{arith}
 use Rattle.shape.proofs.Good.{layout-rows, layout-counts, layout-places}
 use Rattle.shape.proofs.Enough.{enough-to-judge}
-use Rattle.layout.specs.Laid.{ImageOf, LaidOut, Fit, order_at}
+use Rattle.layout.specs.Laid.{LaidOut, Fit, order_at}
 use Rattle.layout.specs.Lent.{tables_of, areas_of, Owed}
 
 module _ (epoch size : ℕ) (limits : DagLimits) (rows edges places work held links order : List ℕ) (x : Bool) (said : x ≡ bad_layout rows edges places) where

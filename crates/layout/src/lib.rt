@@ -1,5 +1,7 @@
 // The layout judge, `DagSnapshot::try_from_pb_with_limits` over lent tables: 1 to 35, and on acceptance the held rows, the held edges
 // and the order list. The layout is laid out and judged in the work area; only an accepted one is copied to the areas that are held.
+#![tactic(auto)]
+
 ghost use Rattle.std.specs.Prelude.{◌≡◌, ◌+◌, ◌*◌, ◌≤◌, ◌<◌, length, replicate};
 ghost use Rattle.lists.specs.Lists.{front};
 ghost use Rattle.words.specs.Part.{part};

@@ -1,10 +1,11 @@
 // The two answers that the listing prints: of an update, and of an ordering query. Areas that no line comes back to are lent from here.
 use crate::tables::first_bytes;
-use libc::STDOUT_FILENO;
+use std::io;
 use types::records::{OrderingMode, SegmentId, Session, Update};
 
 // The update that `.` ends: its answer is printed, and the session after it handed back.
 pub fn end_update(
+    rt: &impl Print,
     session: Session,
     update: Update,
     rows: &[u64],
@@ -12,7 +13,7 @@ pub fn end_update(
     places: &[u64],
     held: &mut [u64],
     links: &mut [u64],
-) -> Session {
+) -> io::Result<Session> {
     // 32 words for each of 32 rows, 32 placements, 64 edge words and 32 held rows
     let mut work = [0u64; 5120];
     let mut order = [0u64; 32];
@@ -48,12 +49,13 @@ pub fn end_update(
         &splits,
         &merges,
     );
-    io::write_all(STDOUT_FILENO, first_bytes(&out, n));
-    o.session
+    rt.write_all(first_bytes(&out, n))?;
+    Ok(o.session)
 }
 
 // An ordering query over the held layout.
 pub fn ask(
+    rt: &impl Print,
     session: Session,
     held: &[u64],
     links: &[u64],
@@ -61,7 +63,7 @@ pub fn ask(
     mode: OrderingMode,
     history: &[u64],
     completed: &[u64],
-) {
+) -> io::Result<()> {
     // 32 words for each of 64 held edge words and 32 held rows
     let mut work = [0u64; 3072];
     let mut first = [0u64; 65];
@@ -84,12 +86,12 @@ pub fn ask(
     let answer = asked.eligibility;
     let mut out = [0u8; 4096];
     let n = printing::queries::put_ordering(&mut out, 0, answer, &first, &second);
-    io::write_all(STDOUT_FILENO, first_bytes(&out, n));
+    rt.write_all(first_bytes(&out, n))
 }
 
 // An unreadable line, by its number.
-pub fn tell_unreadable(line: u64) {
+pub fn tell_unreadable(rt: &impl Print, line: u64) -> io::Result<()> {
     let mut out = [0u8; 32];
     let n = printing::queries::put_unreadable(&mut out, 0, line);
-    io::write_all(STDOUT_FILENO, first_bytes(&out, n));
+    rt.write_all(first_bytes(&out, n))
 }

@@ -1,16 +1,19 @@
 // The listing of document 01: bytes in, answers out. It is a library, so that several programs can run it, each on an input of its own. What
 // a line says is `reading`'s, where it may stand `drafts`', what an answer looks like `printing`'s.
+#![tactic(auto)]
+
 use drafts::places::Place;
-use libc::STDIN_FILENO;
 use reading::kept::Kept;
 use reading::lines::Line;
+use std::io;
+use std::io::Read;
 use types::records::{Broker, OrderingMode, SegmentInfo, Session, Update};
 
 mod answering;
 mod tables;
 
 // Where the listing stands between two bytes.
-#[derive(Drop)]
+#[derive(Clone, Copy)]
 pub struct Listing {
     // how many bytes of the line are in its buffer, and whether they are not all
     pub len: usize,
@@ -48,11 +51,11 @@ pub fn start() -> Listing {
 }
 
 // `X` and the line's number, and no line after it.
-fn stop(l: Listing) -> Listing {
-    answering::tell_unreadable(l.lines);
+fn stop(rt: &impl Print, l: Listing) -> io::Result<Listing> {
+    answering::tell_unreadable(rt, l.lines)?;
     let mut next = l;
     next.stopped = true;
-    next
+    Ok(next)
 }
 
 // The next line begins; its number stays in 64 bits, and no run reads as many lines.
@@ -67,36 +70,48 @@ fn next_line(l: Listing) -> Listing {
     next
 }
 
-fn add_segment(l: Listing, rows: &mut [u64], s: SegmentInfo) -> Listing {
+fn add_segment(
+    rt: &impl Print,
+    l: Listing,
+    rows: &mut [u64],
+    s: SegmentInfo,
+) -> io::Result<Listing> {
     if !tables::add_segment(rows, l.rows, s) {
-        return stop(l);
+        return stop(rt, l);
     }
     let mut next = l;
     next.rows = tables::further(l.rows, rules::ROW as u64);
     next.edges = tables::further(tables::further(l.edges, s.parents), s.children);
-    next
+    Ok(next)
 }
 
-fn add_placement(l: Listing, places: &mut [u64], b: Broker) -> Listing {
+fn add_placement(
+    rt: &impl Print,
+    l: Listing,
+    places: &mut [u64],
+    b: Broker,
+) -> io::Result<Listing> {
     if !tables::add_placement(places, l.places, b) {
-        return stop(l);
+        return stop(rt, l);
     }
     let mut next = l;
     next.places = tables::further(l.places, rules::PLACE as u64);
-    next
+    Ok(next)
 }
 
 // The tables of the update are their filled words.
 fn end_update(
+    rt: &impl Print,
     l: Listing,
     rows: &[u64],
     edges: &[u64],
     places: &[u64],
     held: &mut [u64],
     links: &mut [u64],
-) -> Listing {
+) -> io::Result<Listing> {
     let mut next = l;
     next.session = answering::end_update(
+        rt,
         l.session,
         l.update,
         tables::first(rows, l.rows),
@@ -104,11 +119,12 @@ fn end_update(
         tables::first(places, l.places),
         held,
         links,
-    );
-    next
+    )?;
+    Ok(next)
 }
 
 fn ask(
+    rt: &impl Print,
     l: Listing,
     held: &[u64],
     links: &[u64],
@@ -116,13 +132,14 @@ fn ask(
     mode: OrderingMode,
     history: &[u64],
     completed: &[u64],
-) -> Listing {
-    answering::ask(l.session, held, links, id, mode, history, completed);
-    l
+) -> io::Result<Listing> {
+    answering::ask(rt, l.session, held, links, id, mode, history, completed)?;
+    Ok(l)
 }
 
 // What a line that stands in its place does.
 fn act(
+    rt: &impl Print,
     l: Listing,
     line: Line,
     rows: &mut [u64],
@@ -132,14 +149,15 @@ fn act(
     links: &mut [u64],
     history: &[u64],
     completed: &[u64],
-) -> Listing {
+) -> io::Result<Listing> {
     match line {
-        Line::Session(id) => begin_session(l, id),
-        Line::Update(_) => begin_update(l),
-        Line::Segment(s) => add_segment(l, rows, s),
-        Line::Placement(b) => add_placement(l, places, b),
-        Line::End => end_update(l, rows, edges, places, held, links),
+        Line::Session(id) => Ok(begin_session(l, id)),
+        Line::Update(_) => Ok(begin_update(l)),
+        Line::Segment(s) => add_segment(rt, l, rows, s),
+        Line::Placement(b) => add_placement(rt, l, places, b),
+        Line::End => end_update(rt, l, rows, edges, places, held, links),
         Line::Query(id, mode, owned, done) => ask(
+            rt,
             l,
             held,
             links,
@@ -148,12 +166,12 @@ fn act(
             tables::first(history, owned),
             tables::first(completed, done),
         ),
-        Line::Layout(_, _) => l,
-        Line::Error(_, _) => l,
-        Line::Resolved(_) => l,
-        Line::Controller(_) => l,
-        Line::Secure(_) => l,
-        Line::Unreadable => stop(l),
+        Line::Layout(_, _) => Ok(l),
+        Line::Error(_, _) => Ok(l),
+        Line::Resolved(_) => Ok(l),
+        Line::Controller(_) => Ok(l),
+        Line::Secure(_) => Ok(l),
+        Line::Unreadable => stop(rt, l),
     }
 }
 
@@ -173,6 +191,7 @@ fn begin_update(l: Listing) -> Listing {
 
 // A whole line, without its end.
 fn take_line(
+    rt: &impl Print,
     l: Listing,
     line: &[u8],
     rows: &mut [u64],
@@ -180,23 +199,24 @@ fn take_line(
     places: &mut [u64],
     held: &mut [u64],
     links: &mut [u64],
-) -> Listing {
+) -> io::Result<Listing> {
     let mut history = [0u64; 64];
     let mut completed = [0u64; 64];
     let said = tables::read_behind(line, edges, l.edges, &mut history, &mut completed);
     if !drafts::places::is_in_place(l.place, said) {
-        return stop(l);
+        return stop(rt, l);
     }
     let mut next = l;
     next.place = drafts::places::after_line(l.place, said);
     next.update = drafts::draft::said(l.update, said);
     act(
-        next, said, rows, edges, places, held, links, &history, &completed,
+        rt, next, said, rows, edges, places, held, links, &history, &completed,
     )
 }
 
 // The line in the buffer is whole.
 fn end_line(
+    rt: &impl Print,
     l: Listing,
     line: &[u8],
     rows: &mut [u64],
@@ -204,12 +224,13 @@ fn end_line(
     places: &mut [u64],
     held: &mut [u64],
     links: &mut [u64],
-) -> Listing {
+) -> io::Result<Listing> {
     let next = next_line(l);
     if l.long {
-        return stop(next);
+        return stop(rt, next);
     }
     take_line(
+        rt,
         next,
         tables::first_bytes(line, l.len),
         rows,
@@ -236,6 +257,7 @@ fn keep(l: Listing, b: u8, line: &mut [u8]) -> Listing {
 
 // One byte more of the input.
 pub fn take_byte(
+    rt: &impl Print,
     l: Listing,
     b: u8,
     line: &mut [u8],
@@ -244,18 +266,19 @@ pub fn take_byte(
     places: &mut [u64],
     held: &mut [u64],
     links: &mut [u64],
-) -> Listing {
+) -> io::Result<Listing> {
     if l.stopped {
-        return l;
+        return Ok(l);
     }
     if b == b'\n' {
-        return end_line(l, line, rows, edges, places, held, links);
+        return end_line(rt, l, line, rows, edges, places, held, links);
     }
-    keep(l, b, line)
+    Ok(keep(l, b, line))
 }
 
 // The end of the input. A last line without its newline is read.
 pub fn finish(
+    rt: &impl Print,
     l: Listing,
     line: &[u8],
     rows: &mut [u64],
@@ -263,23 +286,23 @@ pub fn finish(
     places: &mut [u64],
     held: &mut [u64],
     links: &mut [u64],
-) {
+) -> io::Result<()> {
     if l.stopped {
-        return;
+        return Ok(());
     }
     if l.begun {
-        end_line(l, line, rows, edges, places, held, links);
+        end_line(rt, l, line, rows, edges, places, held, links)?;
     }
+    Ok(())
 }
 
 // How many bytes are in the buffer: the n that were there while place i is among them, else those that the next read brings. None: the input
-// has ended, or could not be read.
-pub fn refill(buffer: &mut [u8], i: usize, n: usize) -> usize {
+// has ended.
+pub fn refill(input: &mut impl Read, buffer: &mut [u8], i: usize, n: usize) -> io::Result<usize> {
     if i < n {
-        return n;
+        return Ok(n);
     }
-    let got = libc::read(STDIN_FILENO, buffer);
-    io::count(got, buffer)
+    input.read(buffer)
 }
 
 // The place that is read next: i, or the first of a buffer that was read anew.

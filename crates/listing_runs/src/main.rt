@@ -1,10 +1,12 @@
 // The listing on many inputs, one after another: a line that begins with `=` ends an input, is printed as it is, and begins the next.
-use libc::STDOUT_FILENO;
-use lister::Listing;
+#![tactic(auto)]
 
-fn echo(b: u8) {
+use lister::Listing;
+use std::io;
+
+fn echo(rt: &impl Print, b: u8) -> io::Result<()> {
     let one = [b];
-    io::write_all(STDOUT_FILENO, &one);
+    rt.write_all(&one)
 }
 
 // Whether the line of the next byte is a title.
@@ -17,6 +19,7 @@ fn is_titled(titled: bool, b: u8) -> bool {
 
 // One byte more: of a title, the first of a title, or of an input.
 fn take(
+    rt: &impl Print,
     l: Listing,
     titled: bool,
     b: u8,
@@ -26,39 +29,39 @@ fn take(
     places: &mut [u64],
     held: &mut [u64],
     links: &mut [u64],
-) -> Listing {
+) -> io::Result<Listing> {
     if titled {
-        echo(b);
-        return l;
+        echo(rt, b)?;
+        return Ok(l);
     }
     if b == b'=' {
-        lister::finish(l, line, rows, edges, places, held, links);
-        echo(b);
-        return lister::start();
+        lister::finish(rt, l, line, rows, edges, places, held, links)?;
+        echo(rt, b)?;
+        return Ok(lister::start());
     }
-    lister::take_byte(l, b, line, rows, edges, places, held, links)
+    lister::take_byte(rt, l, b, line, rows, edges, places, held, links)
 }
 
-fn main() {
+fn main(rt: HostRuntime) -> io::Result<()> {
     let mut line = [0u8; 4096];
     let mut rows = [0u64; 352];
     let mut edges = [0u64; 64];
     let mut places = [0u64; 128];
     let mut held = [0u64; 480];
     let mut links = [0u64; 64];
-    let mut buffer = io::buffer();
+    let mut input = rt.stdin();
+    let mut buffer = [0u8; 4096];
     let mut n = 0;
     let mut i = 0;
     let mut l = lister::start();
     let mut titled = false;
-    let mut left = u64::MAX;
-    while left > 0 {
-        left -= 1;
+    for _ in 0..u64::MAX {
         let had = n;
-        n = lister::refill(&mut buffer, i, had);
+        n = lister::refill(&mut input, &mut buffer, i, had)?;
         i = lister::place_in(i, had);
         if n == 0 {
-            lister::finish(
+            return lister::finish(
+                &rt,
                 l,
                 &line,
                 &mut rows,
@@ -67,10 +70,10 @@ fn main() {
                 &mut held,
                 &mut links,
             );
-            return;
         }
         let b = lister::byte_at(&buffer, i);
         l = take(
+            &rt,
             l,
             titled,
             b,
@@ -80,8 +83,9 @@ fn main() {
             &mut places,
             &mut held,
             &mut links,
-        );
+        )?;
         titled = is_titled(titled, b);
         i = lister::place_after(i);
     }
+    Ok(())
 }

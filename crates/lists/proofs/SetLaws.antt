@@ -13,7 +13,7 @@ use lib.Dec.{eqb, ltb}
 use lib.ListN.{length, get_or, take}
 use lib.Seq.{take-length}
 use Rattle.lists.specs.Lists.{has, ◌∈◌, ◌∉◌}
-use Rattle.lists.specs.Sort.{insert, sorted}
+use Rattle.lists.specs.Sort.{sorted}
 use Rattle.lists.specs.Sets.{Ascending, add, add_all, keep, total}
 use Rattle.lists.proofs.SortLaws.{true-or-false}
 use Rattle.lists.proofs.Tests.{any-sorted}
@@ -59,6 +59,10 @@ and-of false b p q = never p
 pub here : (x : ℕ) (l : List ℕ) → x ∈ (x ∷ l)
 here x l = or_left _ _ (eq-eqb x x refl)
 
+-- the same where the head is another word for x
+pub here_eq : (x y : ℕ) (l : List ℕ) → x ≡ y → x ∈ (y ∷ l)
+here_eq x y l e = or_left _ _ (eq-eqb y x (sym e))
+
 pub there : (x y : ℕ) (l : List ℕ) → x ∈ l → x ∈ (y ∷ l)
 there x y l h = or_right (eqb y x) _ h
 
@@ -86,7 +90,7 @@ in_right z a b h = has-append z a b ∙ or_right (has z a) _ h
 pub in_take : (x q : ℕ) (l : List ℕ) → x ∈ take q l → x ∈ l
 in_take x zero l h = never h
 in_take x (suc q) [] h = never h
-in_take x (suc q) (y ∷ l) h = ⊎_elim (λ (e : x ≡ y). rw e (here y l)) (λ (k : x ∈ take q l). there x y l (in_take x q l k)) (in-cons x y (take q l) h)
+in_take x (suc q) (y ∷ l) h = ⊎_elim (λ (e : x ≡ y). here_eq x y l e) (λ (k : x ∈ take q l). there x y l (in_take x q l k)) (in-cons x y (take q l) h)
 
 -- what is sorted has the same keys
 module _ {A : Type 0} (le : A → A → Bool) (key : A → ℕ) (z : ℕ) where
@@ -172,7 +176,7 @@ in_all z (x ∷ xs) l h = go (in_all z xs l) (in-add z x (add_all xs l) h)
     on (inr k) = inr k
 
     go : (z ∈ add_all xs l → (z ∈ xs) ⊎ (z ∈ l)) → (z ≡ x) ⊎ (z ∈ add_all xs l) → (z ∈ (x ∷ xs)) ⊎ (z ∈ l)
-    go ih (inl e) = inl (rw e (here x xs))
+    go ih (inl e) = inl (here_eq z x xs e)
     go ih (inr k) = on (ih k)
 
 pub asc-all : (xs l : List ℕ) → Ascending l → Ascending (add_all xs l)
@@ -203,7 +207,7 @@ in_remove z x (y ∷ ys) n h = go (in_remove z x ys n) (eqb y x) refl (in-cons z
     go : (z ∈ ys → z ∈ remove x ys) → (t : Bool) → eqb y x ≡ t → (z ≡ y) ⊎ (z ∈ ys) → z ∈ cond t ys (y ∷ remove x ys)
     go ih true e (inl k) = absurd (n (k ∙ eqb-true y x e))
     go ih true e (inr k) = k
-    go ih false e (inl k) = rw k (here y (remove x ys))
+    go ih false e (inl k) = here_eq z y (remove x ys) k
     go ih false e (inr k) = there z y (remove x ys) (ih k)
 
 pub fits : (l P : List ℕ) → Ascending l → ((x : ℕ) → x ∈ l → x ∈ P) → length l ≤ length P

@@ -1,6 +1,6 @@
 -- Ascending lists of ids, read as sets.
 -- Assumes nothing.
-use Rattle.std.specs.Prelude.{Bool, true, false, cond, List, [], ◌∷◌, ℕ, ◌+◌, ◌<◌, ltb, eqb}
+use Rattle.std.specs.Prelude.{Bool, cond, List, [], ◌∷◌, ℕ, ◌+◌, ◌<◌, ltb, eqb}
 use Rattle.lists.specs.Lists.{◌∈◌}
 
 -- each id is above those before it: no id stands twice

@@ -2,14 +2,14 @@
 -- Assumes nothing.
 use mathlib.Core.Path.{◌≡◌, refl, sym, ap, ◌∙◌}
 use mathlib.Core.List.{List, []}
-use Prim.Native.Nat.{ℕ, ◌+◌, ◌-◌, ◌*◌, ◌<◌, ◌≤◌}
+use Prim.Native.Nat.{ℕ, ◌+◌, ◌*◌, ◌<◌, ◌≤◌}
 use native.Mathlib.Omega.{arith}
 use lib.ListN.{length, get_or, set, take, drop, length-set}
 use lib.Seq.{drop-set-lt}
 use Rattle.words.specs.Part.{part}
 use Rattle.words.proofs.PartLaws.{part_length}
 use Rattle.rules.specs.Order.{in_order, too_deep, cyclic}
-use Rattle.tree.specs.Tree.{Tree, Low, least}
+use Rattle.tree.specs.Tree.{Tree, least}
 use Rattle.order.specs.Graph.{St, unready, children, Went, visit_all, on, run}
 use Rattle.order.specs.declared.Order.TheVariants.{Whole, Depth, Cycle}
 use Rattle.order.specs.Area.{tree_in, view, order_in, off_in, edges_in, Laid, Told}

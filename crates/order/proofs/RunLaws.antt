@@ -4,7 +4,7 @@
 --     run-cycle, run-deep, run-next, Going, going_end, going-cycle, going-deep, going_next     one turn of the run: what is left to do gives the whole answer
 --     seen-deep, seen-on, ends, parents-length, slots_length     what the code reads
 -- Assumes nothing.
-use mathlib.Core.Path.{◌≡◌, refl, sym, ap, ◌∙◌, subst}
+use mathlib.Core.Path.{◌≡◌, refl, sym, ap, ◌∙◌}
 use mathlib.Core.Bool.{Bool, true, false, cond}
 use mathlib.Core.List.{List, [], ◌∷◌, ◌++◌}
 use Prim.Native.Nat.{ℕ, zero, suc, ◌+◌, ◌-◌, ◌*◌, ◌<◌, ◌≤◌, max}
@@ -20,7 +20,7 @@ use Rattle.tree.specs.Tree.{least, Low, Tree}
 use Rattle.order.specs.declared.Visit.{Visit}
 use Rattle.order.specs.declared.Visit.TheVariants.{Done, Deep}
 use Rattle.order.specs.Graph.{seen, St, st, Nodes, Graph, touch, Went, on, deep, visit_all, parents, children, unready, run}
-use Rattle.rules.specs.Order.{Ordered, in_order, too_deep, cyclic}
+use Rattle.rules.specs.Order.{in_order, too_deep, cyclic}
 
 pub st-eq : {a a' b b' c c' : List ℕ} → a ≡ a' → b ≡ b' → c ≡ c' → ◌≡◌ {A = St} (record { deg = a; dep = b; rdy = c }) (record { deg = a'; dep = b'; rdy = c' })
 st-eq p q r = λ i. record { deg = p i; dep = q i; rdy = r i }

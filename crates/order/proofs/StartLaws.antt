@@ -1,9 +1,9 @@
 -- The state at the start: what degrees, depths and slots have to be (begun), that they are low, and a turn of the loop that fills the slots.
 -- Assumes nothing.
-use mathlib.Core.Path.{◌≡◌, refl, sym, ap, ◌∙◌}
+use mathlib.Core.Path.{◌≡◌, refl, ◌∙◌}
 use mathlib.Core.Bool.{Bool, true, false, cond}
-use mathlib.Core.List.{List, []}
-use Prim.Native.Nat.{ℕ, ◌+◌, ◌<◌, ◌≤◌, zero-le}
+use mathlib.Core.List.{List}
+use Prim.Native.Nat.{ℕ, ◌+◌, ◌<◌, ◌≤◌}
 use native.Mathlib.Nat.{le_refl}
 use native.Mathlib.Decide.{dec_lt}
 use native.Mathlib.Omega.{arith}

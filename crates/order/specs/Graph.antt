@@ -1,7 +1,7 @@
 -- The order of document 01 over the nodes 0 to n - 1 of a graph: always take the smallest ready node; its children in list order get depth
 -- one more than it, at least; above the limit is a refusal, at once; and where no node is ready before all were taken there is a cycle.
 -- Assumes nothing.
-use Rattle.std.specs.Prelude.{◌≡◌, Bool, true, false, cond, List, [], ◌∷◌, ◌++◌, ℕ, zero, suc, ◌+◌, ◌-◌, ◌*◌, ◌<◌, ◌≤◌, max, ltb, eqb, length, get_or, set, drop, replicate}
+use Rattle.std.specs.Prelude.{◌≡◌, cond, List, [], ◌∷◌, ◌++◌, ℕ, zero, suc, ◌+◌, ◌-◌, ◌*◌, ◌<◌, ◌≤◌, max, ltb, eqb, length, get_or, set, drop, replicate}
 use Rattle.std.proofs.Math.Seq.{slice}
 use Rattle.tree.specs.Tree.{least}
 use Rattle.rules.specs.Order.{Ordered, in_order, too_deep, cyclic}

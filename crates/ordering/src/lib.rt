@@ -1,5 +1,7 @@
 // The ordering query of document 01 over held tables: whether a segment may be read, given what was owned and completed; and the parents
 // and children of a segment as stretches of the held table itself.
+#![tactic(auto)]
+
 ghost use Rattle.std.specs.Prelude.{◌≡◌, length};
 ghost use Rattle.rules.specs.Ordering.{query, ordering_of, first_after, second_after, order_work_after, permits_flow, known_rule, parent_stretch, child_stretch};
 
@@ -24,10 +26,10 @@ pub fn ordering_eligibility(
     first: &mut [u64],
     second: &mut [u64],
 ) -> Ordering
-    ensures value { result ≡ ordering_of (query rows.now edges.now h g mode segment.0 history.now completed.now (record { work = length work.entry.now; first = first.old; second = second.old })) }
-    ensures first_after { first.new ≡ first_after (query rows.now edges.now h g mode segment.0 history.now completed.now (record { work = length work.entry.now; first = first.old; second = second.old })) first.old }
-    ensures second_after { second.new ≡ second_after (query rows.now edges.now h g mode segment.0 history.now completed.now (record { work = length work.entry.now; first = first.old; second = second.old })) second.old }
-    ensures work_value { work.exit.now ≡ order_work_after (query rows.now edges.now h g mode segment.0 history.now completed.now (record { work = length work.entry.now; first = first.old; second = second.old })) work.entry.now }
+    ensures value { result ≡ ordering_of (query rows.now edges.now h g mode segment.0 history.now completed.now (record { work = length work.old; first = first.old; second = second.old })) }
+    ensures first_after { first.new ≡ first_after (query rows.now edges.now h g mode segment.0 history.now completed.now (record { work = length work.old; first = first.old; second = second.old })) first.old }
+    ensures second_after { second.new ≡ second_after (query rows.now edges.now h g mode segment.0 history.now completed.now (record { work = length work.old; first = first.old; second = second.old })) second.old }
+    ensures work_value { work.new ≡ order_work_after (query rows.now edges.now h g mode segment.0 history.now completed.now (record { work = length work.old; first = first.old; second = second.old })) work.old }
 {
     if shape::tables::is_bad_held(rows, edges, h, g) {
         return query::refused(1, 0);

@@ -1,6 +1,7 @@
 // A segment with many parents: 299 with a row, their ids seven apart, and 299 references to 150 ids without one. References to so many ids with
 // gaps between them are found by hints, and so many ids without a row are put in order by their digits.
 use crate::print;
+use std::io;
 use types::records::{OrderingMode, SegmentId};
 
 // The word at this place, if there is one.
@@ -12,35 +13,30 @@ fn put(a: &mut [u64], at: usize, x: u64) {
 
 // 300 held rows of all hashes, of which the last has 598 parents.
 fn fill_rows(rows: &mut [u64]) {
-    let mut i = 0u64;
-    let mut at = 0;
-    while i < 300 {
+    for i in 0..300u64 {
+        let at = 15 * i as usize;
         put(rows, at, 7 * i + 5);
         put(rows, at + 2, 65535);
-        i += 1;
-        at += 15;
     }
     put(rows, 4494, 598);
 }
 
 // The parents, from the highest down.
 fn fill_edges(edges: &mut [u64]) {
-    let mut i = 299u64;
-    let mut at = 0;
-    while 0 < i {
-        i -= 1;
+    for k in 0..299u64 {
+        let i = 298 - k;
+        let at = 2 * k as usize;
         put(edges, at, 7 * i + 5);
         put(edges, at + 1, 7 * (i / 2) + 6);
-        at += 2;
     }
 }
 
-fn ask(rows: &[u64], edges: &[u64], mode: OrderingMode) {
+fn ask(rt: &impl Print, rows: &[u64], edges: &[u64], mode: OrderingMode) -> io::Result<()> {
     let none = &edges[..0];
     let mut work = [7u64; 28736];
     let mut first = [0u64; 599];
     let mut second = [0u64; 599];
-    print::query(mode, 2098, none, none);
+    print::query(rt, mode, 2098, none, none)?;
     let answer = ordering::ordering_eligibility(
         rows,
         edges,
@@ -54,15 +50,15 @@ fn ask(rows: &[u64], edges: &[u64], mode: OrderingMode) {
         &mut first,
         &mut second,
     );
-    print::answer(answer, &first, &second);
+    print::answer(rt, answer, &first, &second)
 }
 
-pub fn run() {
-    print::line(b"many parents, ids with gaps");
+pub fn run(rt: &impl Print) -> io::Result<()> {
+    print::line(rt, b"many parents, ids with gaps")?;
     let mut rows = [0u64; 4500];
     let mut edges = [0u64; 598];
     fill_rows(&mut rows);
     fill_edges(&mut edges);
-    ask(&rows, &edges, OrderingMode::Strict);
-    ask(&rows, &edges, OrderingMode::BrokerManaged);
+    ask(rt, &rows, &edges, OrderingMode::Strict)?;
+    ask(rt, &rows, &edges, OrderingMode::BrokerManaged)
 }

@@ -1,102 +1,109 @@
 // Queries, answers and lists as text.
 use answers::{Eligibility, Judged, Ordering, Refusal};
 use shown::{ids, text, word};
+use std::io;
 use types::records::OrderingMode;
 
-pub fn line(bytes: &[u8]) {
-    text(b"# ");
-    text(bytes);
-    text(b"\n");
+pub fn line(rt: &impl Print, bytes: &[u8]) -> io::Result<()> {
+    text(rt, b"# ")?;
+    text(rt, bytes)?;
+    text(rt, b"\n")
 }
 
 // The first k words of a list.
-fn first_ids(list: &[u64], k: usize) {
+fn first_ids(rt: &impl Print, list: &[u64], k: usize) -> io::Result<()> {
     if list.len() < k {
-        text(b" ?");
-        return;
+        text(rt, b" ?")?;
+        return Ok(());
     }
-    ids(&list[..k]);
+    ids(rt, &list[..k])
 }
 
-fn refusal(r: Refusal) {
-    text(b" R");
-    shown::refusal(r);
+fn refusal(rt: &impl Print, r: Refusal) -> io::Result<()> {
+    text(rt, b" R")?;
+    shown::refusal(rt, r)
 }
 
-fn mode(m: OrderingMode) {
+fn mode(rt: &impl Print, m: OrderingMode) -> io::Result<()> {
     match m {
-        OrderingMode::Strict => text(b" S"),
-        OrderingMode::BrokerManaged => text(b" B"),
+        OrderingMode::Strict => text(rt, b" S"),
+        OrderingMode::BrokerManaged => text(rt, b" B"),
     }
 }
 
-pub fn query(m: OrderingMode, id: u64, history: &[u64], completed: &[u64]) {
-    text(b"O");
-    word(id);
-    mode(m);
-    ids(history);
-    ids(completed);
-    text(b":");
+pub fn query(
+    rt: &impl Print,
+    m: OrderingMode,
+    id: u64,
+    history: &[u64],
+    completed: &[u64],
+) -> io::Result<()> {
+    text(rt, b"O")?;
+    word(rt, id)?;
+    mode(rt, m)?;
+    ids(rt, history)?;
+    ids(rt, completed)?;
+    text(rt, b":")
 }
 
-fn unprovable(id: u64, first: &[u64], n: usize) {
-    text(b" R 51");
-    word(id);
-    first_ids(first, n);
+fn unprovable(rt: &impl Print, id: u64, first: &[u64], n: usize) -> io::Result<()> {
+    text(rt, b" R 51")?;
+    word(rt, id)?;
+    first_ids(rt, first, n)
 }
 
-fn blocked(first: &[u64], n: usize, second: &[u64], m: usize) {
-    text(b" B");
-    first_ids(first, n);
-    first_ids(second, m);
+fn blocked(rt: &impl Print, first: &[u64], n: usize, second: &[u64], m: usize) -> io::Result<()> {
+    text(rt, b" B")?;
+    first_ids(rt, first, n)?;
+    first_ids(rt, second, m)
 }
 
-fn managed(second: &[u64], m: usize) {
-    text(b" M");
-    first_ids(second, m);
+fn managed(rt: &impl Print, second: &[u64], m: usize) -> io::Result<()> {
+    text(rt, b" M")?;
+    first_ids(rt, second, m)
 }
 
-fn eligibility(e: Eligibility, first: &[u64], second: &[u64]) {
+fn eligibility(rt: &impl Print, e: Eligibility, first: &[u64], second: &[u64]) -> io::Result<()> {
     match e {
-        Eligibility::Refused(r) => refusal(r),
-        Eligibility::Unprovable(id, n) => unprovable(id, first, n),
-        Eligibility::Blocked(n, m) => blocked(first, n, second, m),
-        Eligibility::Eligible => text(b" E"),
-        Eligibility::BrokerManaged(m) => managed(second, m),
+        Eligibility::Refused(r) => refusal(rt, r),
+        Eligibility::Unprovable(id, n) => unprovable(rt, id, first, n),
+        Eligibility::Blocked(n, m) => blocked(rt, first, n, second, m),
+        Eligibility::Eligible => text(rt, b" E"),
+        Eligibility::BrokerManaged(m) => managed(rt, second, m),
     }
 }
 
-fn permitted(e: Eligibility) {
+fn permitted(rt: &impl Print, e: Eligibility) -> io::Result<()> {
     if ordering::permits_flow(e) {
-        text(b", permitted\n");
+        text(rt, b", permitted\n")
     } else {
-        text(b", not permitted\n");
+        text(rt, b", not permitted\n")
     }
 }
 
-pub fn answer(o: Ordering, first: &[u64], second: &[u64]) {
+pub fn answer(rt: &impl Print, o: Ordering, first: &[u64], second: &[u64]) -> io::Result<()> {
     let e = o.eligibility;
-    eligibility(e, first, second);
-    text(b", read");
-    word(o.read);
-    permitted(e);
+    eligibility(rt, e, first, second)?;
+    text(rt, b", read")?;
+    word(rt, o.read)?;
+    permitted(rt, e)
 }
 
-pub fn judged(label: &[u8], id: u64, j: Judged) {
-    text(label);
-    word(id);
-    text(b":");
+pub fn judged(rt: &impl Print, label: &[u8], id: u64, j: Judged) -> io::Result<()> {
+    text(rt, label)?;
+    word(rt, id)?;
+    text(rt, b":")?;
     match j {
-        Judged::Accepted => text(b" accepted"),
-        Judged::Refused(r) => refusal(r),
+        Judged::Accepted => text(rt, b" accepted")?,
+        Judged::Refused(r) => refusal(rt, r)?,
     }
-    text(b"\n");
+    text(rt, b"\n")
 }
 
-pub fn stretch(label: &[u8], id: u64, list: &[u64]) {
-    text(label);
-    word(id);
-    text(b":");
-    ids(list);
-    text(b"\n");
+pub fn stretch(rt: &impl Print, label: &[u8], id: u64, list: &[u64]) -> io::Result<()> {
+    text(rt, label)?;
+    word(rt, id)?;
+    text(rt, b":")?;
+    ids(rt, list)?;
+    text(rt, b"\n")
 }

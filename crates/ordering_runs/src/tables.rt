@@ -1,4 +1,5 @@
 // The layouts of the runs, judged into held areas.
+use std::io;
 
 // What a judge that accepts leaves, by value, in room for four rows and sixteen edge words.
 #[derive(Drop)]
@@ -13,10 +14,10 @@ const SPLIT: [u64; 33] = [
 ];
 
 // Segment 1, split at epoch 3 into 2 and 3: document 01's worked example.
-pub fn judge_split() -> Held {
+pub fn judge_split(rt: &impl Print) -> io::Result<Held> {
     let rows = SPLIT;
     let edges = [2, 3, 1, 1u64];
-    judge(3, &rows, &edges)
+    judge(rt, 3, &rows, &edges)
 }
 
 const MERGE: [u64; 44] = [
@@ -25,20 +26,20 @@ const MERGE: [u64; 44] = [
 ];
 
 // Segment 1, split at epoch 1 into 2 and 3, which are merged at epoch 2 into 4.
-pub fn judge_merge() -> Held {
+pub fn judge_merge(rt: &impl Print) -> io::Result<Held> {
     let rows = MERGE;
     let edges = [2, 3, 1, 4, 1, 4, 2, 3u64];
-    judge(2, &rows, &edges)
+    judge(rt, 2, &rows, &edges)
 }
 
 // Segment 1 alone, created at epoch 1: what it came from is gone.
-pub fn judge_pruned() -> Held {
+pub fn judge_pruned(rt: &impl Print) -> io::Result<Held> {
     let rows = [1, 0, 65535, 1, 1, 0, 0, 0, 0, 0, 0u64];
     let none = [0u64; 1];
-    judge(1, &rows, &none[..0])
+    judge(rt, 1, &rows, &none[..0])
 }
 
-fn judge(epoch: u64, rows: &[u64], edges: &[u64]) -> Held {
+fn judge(rt: &impl Print, epoch: u64, rows: &[u64], edges: &[u64]) -> io::Result<Held> {
     let mut work = [0u64; 512];
     let mut held = [0u64; 60];
     let mut links = [0u64; 16];
@@ -54,11 +55,11 @@ fn judge(epoch: u64, rows: &[u64], edges: &[u64]) -> Held {
         &mut links,
         &mut order,
     );
-    crate::print::judged(b"layout of epoch", epoch, judged);
-    Held {
+    crate::print::judged(rt, b"layout of epoch", epoch, judged)?;
+    Ok(Held {
         rows: held,
         edges: links,
-    }
+    })
 }
 
 // Not a layout: 5 and 9 are each other's parents, and three parents have no row.

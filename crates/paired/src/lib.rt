@@ -1,5 +1,7 @@
 // The pairs of document 01's delta: which new rows split a row held before or merge several, from the image of the new rows and the old
 // held rows. And the search that they share with the rest of the delta: was this id held before (`ids`)?
+#![tactic(auto)]
+
 ghost use Rattle.std.specs.Prelude.{◌≡◌, ◌+◌, ◌*◌, ◌≤◌, length, take};
 ghost use Rattle.lists.specs.Lists.{front};
 ghost use Rattle.rules.specs.Tables.{held_width};
@@ -12,7 +14,7 @@ pub mod ids;
 mod pairs;
 
 // How many pairs of each kind.
-#[derive(Drop)]
+#[derive(Clone, Copy)]
 pub struct Paired {
     pub splits: usize,
     pub merges: usize,

@@ -1,5 +1,7 @@
 // The ordering query of document 01 over good held tables, in a work area that need not be cleared and is left as it comes: a caller with
 // many queries judges its tables and clears its work area once.
+#![tactic(auto)]
+
 ghost use Rattle.std.specs.Prelude.{◌≡◌, ◌+◌, ◌*◌, ◌<◌, length, get_or};
 ghost use Rattle.rules.specs.Tables.{held_width, held_segments};
 ghost use Rattle.rules.specs.Ordering.{ordering, refused_at, ordering_of};

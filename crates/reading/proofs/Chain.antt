@@ -1,8 +1,7 @@
 -- A line read field by field: `chain` is the set of laws that follow the code through one definition, each by what a callee answered.
 -- Assumes nothing.
-use mathlib.Core.Path.{◌≡◌, refl, sym, ap, ◌∙◌}
+use mathlib.Core.Path.{◌≡◌, refl, sym, ◌∙◌}
 use mathlib.Core.Bool.{cond}
-use mathlib.Core.List.{List}
 use Prim.Native.Nat.{ℕ}
 use borrow.Author.Tests.{eq-eqb, ne_eqb}
 use lib.Dec.{eqb}
@@ -17,7 +16,7 @@ use Rattle.reading.specs.declared.fields.Choice.TheVariants.{Chosen, NoChoice}
 use Rattle.reading.specs.declared.lines.Line.{Line}
 use Rattle.reading.specs.declared.lines.Line.TheVariants.{Unreadable}
 use Rattle.reading.specs.declared.lines.Row.{Row}
-use Rattle.reading.specs.declared.lines.Row.TheVariants.{Words, NoRow}
+use Rattle.reading.specs.declared.lines.Row.TheVariants.{NoRow}
 use Rattle.reading.specs.Lines.{with_number, with_code, with_option, with_name, name_of, row_number, row_option}
 
 -- a test of a number that a callee answered

@@ -1,8 +1,8 @@
 -- The fields counted byte by byte: each space begins one more. A field of one byte, and an optional field, by their tests.
 -- Assumes nothing.
-use mathlib.Core.Path.{◌≡◌, refl, sym, ap, ◌∙◌}
+use mathlib.Core.Path.{◌≡◌, refl, sym, ◌∙◌}
 use mathlib.Core.List.{List, [], ◌∷◌}
-use Prim.Native.Nat.{ℕ, suc, ◌+◌, ◌-◌, ◌<◌, ◌≤◌}
+use Prim.Native.Nat.{ℕ, suc, ◌+◌, ◌<◌, ◌≤◌}
 use native.Mathlib.Numerals.{add-one}
 use native.Mathlib.Omega.{arith}
 use borrow.Author.Tests.{eq-eqb, ne_eqb}
@@ -10,7 +10,6 @@ use lib.ListN.{length, get_or, drop, drop_of_length-le}
 use lib.Seq.{drop-cons}
 use Rattle.reading.specs.declared.numbers.Number.{Number}
 use Rattle.reading.specs.declared.numbers.Number.TheVariants.{Value, NoNumber}
-use Rattle.reading.specs.declared.fields.Choice.{Choice}
 use Rattle.reading.specs.declared.fields.Choice.TheVariants.{Chosen, NoChoice}
 use Rattle.reading.specs.Numbers.{number_of}
 use Rattle.reading.specs.Fields.{push, split, letter_of, option_of}

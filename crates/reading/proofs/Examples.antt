@@ -2,7 +2,7 @@
 -- Assumes nothing.
 use mathlib.Core.Path.{◌≡◌, refl}
 use mathlib.Core.Bool.{true, false}
-use mathlib.Core.List.{List, [], ◌∷◌}
+use mathlib.Core.List.{[], ◌∷◌}
 use mathlib.Core.Option.{none, some}
 use Rattle.types.specs.declared.records.OrderingMode.TheVariants.{BrokerManaged}
 use Rattle.reading.specs.declared.numbers.Number.TheVariants.{Value, NoNumber}

@@ -2,18 +2,17 @@
 -- Assumes nothing.
 use mathlib.Core.Path.{◌≡◌, refl, sym, ap, ◌∙◌}
 use mathlib.Core.List.{List, [], ◌∷◌, ◌++◌, append_assoc, append-nil}
-use mathlib.Core.Option.{Option, none, some}
 use Prim.Native.Nat.{ℕ, ◌+◌, ◌-◌, ◌<◌, ◌≤◌}
 use native.Mathlib.Numerals.{add-one}
 use native.Mathlib.Omega.{arith}
-use lib.ListN.{length, get_or, take, drop, set, length-set, take-append-drop}
+use lib.ListN.{length, take, drop, set, length-set, take-append-drop}
 use lib.Seq.{length-take-le, take-suc-set, drop-set-lt, drop-drop}
 use Rattle.reading.specs.declared.numbers.Number.{Number}
 use Rattle.reading.specs.declared.numbers.Number.TheVariants.{Value, NoNumber}
 use Rattle.reading.specs.Numbers.{number_of}
 use Rattle.reading.specs.Fields.{up_to, split}
-use Rattle.reading.specs.Lists.{filled, front, front_with}
-use Rattle.reading.proofs.Parts.{part-first, to-fits, more_parts, last-part, later, roomy}
+use Rattle.reading.specs.Lists.{filled, front}
+use Rattle.reading.proofs.Parts.{part-first, to-fits, more_parts, last-part, roomy}
 
 closed : (w₀ w F : List ℕ) (n : ℕ) → n ≤ length w → drop n w ≡ drop n w₀ → take n w ≡ F → w ≡ filled w₀ F
 closed w₀ w F n h d t =

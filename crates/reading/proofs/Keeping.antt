@@ -1,19 +1,19 @@
 -- One byte more of a line, in a buffer: by the tests of the code.
 -- Assumes nothing.
 use mathlib.Core.Path.{◌≡◌, refl, sym, ap, ◌∙◌}
-use mathlib.Core.Bool.{Bool, true, false, cond, ◌&&◌, ◌||◌}
+use mathlib.Core.Bool.{Bool, true, false, ◌&&◌}
 use mathlib.Core.List.{List, [], ◌∷◌, ◌++◌, append_assoc}
-use Prim.Native.Nat.{ℕ, zero, suc, ◌+◌, ◌-◌, ◌<◌, ◌≤◌}
+use Prim.Native.Nat.{ℕ, suc, ◌+◌, ◌-◌, ◌<◌, ◌≤◌}
 use native.Mathlib.Numerals.{add-one}
 use native.Mathlib.Omega.{arith}
-use borrow.Author.Tests.{lt-ltb, le-ltb, le-leb, lt-leb, eq-eqb, ne_eqb, leb-true}
+use borrow.Author.Tests.{le-leb, lt-leb, eq-eqb, ne_eqb, leb-true}
 use lib.Dec.{eqb, leb}
 use lib.ListN.{length, get_or, take, drop, set, length-append}
 use lib.Seq.{length-take-le, get_or-take, take-take, set_split}
 use Rattle.reading.specs.declared.kept.Kept.{Kept}
 use Rattle.reading.specs.declared.kept.Kept.TheVariants.{Bytes, TooLong}
 use Rattle.reading.specs.Numbers.{is_digit}
-use Rattle.reading.specs.Kept.{Buffer, is_edge, lone_zero, keep_byte, stored, after}
+use Rattle.reading.specs.Kept.{Buffer, is_edge, lone_zero, keep_byte, after}
 
 -- ---- the byte before a number
 

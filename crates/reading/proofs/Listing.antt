@@ -1,11 +1,11 @@
 -- A list counted item by item: what is counted, and what the rest of the field says, is what the whole field says.
 -- Assumes nothing.
 use mathlib.Core.Path.{◌≡◌, refl, sym, ap, ◌∙◌}
-use mathlib.Core.List.{List, [], ◌∷◌}
+use mathlib.Core.List.{List}
 use mathlib.Core.Option.{Option, none, some}
-use Prim.Native.Nat.{ℕ, zero, suc, ◌+◌, ◌-◌, ◌<◌, ◌≤◌}
+use Prim.Native.Nat.{ℕ, suc, ◌+◌, ◌-◌, ◌<◌, ◌≤◌}
 use native.Mathlib.Omega.{arith}
-use lib.ListN.{length, get_or, take, drop}
+use lib.ListN.{length, take, drop}
 use Rattle.reading.specs.declared.numbers.Number.{Number}
 use Rattle.reading.specs.declared.numbers.Number.TheVariants.{Value, NoNumber}
 use Rattle.reading.specs.declared.lists.Listed.{Listed}
@@ -13,7 +13,7 @@ use Rattle.reading.specs.declared.lists.Listed.TheVariants.{Items, NoList}
 use Rattle.reading.specs.Numbers.{number_of}
 use Rattle.reading.specs.Fields.{up_to, split}
 use Rattle.reading.specs.Lists.{before, numbers_of, listed}
-use Rattle.reading.proofs.Parts.{part-first, to-fits, more_parts, last-part, later, roomy}
+use Rattle.reading.proofs.Parts.{part-first, to-fits, more_parts, last-part, roomy}
 
 -- a list told by its length, with n numbers before it
 abbrev pub listed_from : ℕ → Option (List ℕ) → Listed

@@ -1,16 +1,16 @@
 -- The parts of a text one after the other: the first ends before the first separator, and the others are the parts of what follows it.
 -- By induction on the text. Assumes nothing.
-use mathlib.Core.Path.{◌≡◌, refl, sym, ap, ◌∙◌}
+use mathlib.Core.Path.{◌≡◌, refl, ap, ◌∙◌}
 use mathlib.Core.Bool.{Bool, true, false, cond}
 use mathlib.Core.List.{List, [], ◌∷◌}
 use Prim.Native.Nat.{ℕ, suc, ◌+◌, ◌-◌, ◌<◌, ◌≤◌}
 use native.Mathlib.Numerals.{add-one}
 use native.Mathlib.Omega.{arith}
-use borrow.Author.Tests.{eq-eqb, ne_eqb, eqb-true}
+use borrow.Author.Tests.{eq-eqb, ne_eqb}
 use lib.Dec.{eqb}
 use lib.ListN.{length, get_or, take, drop, length-drop, drop_of_length-le}
-use lib.Seq.{drop-cons, drop-drop, take_all, drop-nil}
-use Rattle.reading.specs.Fields.{up_to, split, push, fields_of}
+use lib.Seq.{drop-cons, drop-drop}
+use Rattle.reading.specs.Fields.{up_to, split, push}
 
 -- ---- where a part ends
 

@@ -4,17 +4,16 @@ use mathlib.Core.Path.{◌≡◌, refl, sym, ap, subst}
 use mathlib.Core.Bool.{Bool, true, false, cond, ◌&&◌}
 use mathlib.Core.List.{List, [], ◌∷◌, ◌++◌}
 use mathlib.Core.Logic.{◌⊎◌, inl, inr}
-use Prim.Native.Nat.{ℕ, ◌+◌, ◌-◌, ◌<◌, ◌≤◌}
+use Prim.Native.Nat.{ℕ, ◌-◌, ◌<◌, ◌≤◌}
 use native.Mathlib.Omega.{arith}
 use native.Mathlib.Decide.{dec_lt}
 use borrow.Author.Tests.{le-leb, lt-leb}
-use lib.Dec.{leb}
 use lib.ListN.{length, take, drop, length-append, length-drop}
 use lib.Seq.{take-append_seam, length-take-le}
 use Rattle.reading.specs.declared.kept.Kept.{Kept}
 use Rattle.reading.specs.declared.kept.Kept.TheVariants.{Bytes, TooLong}
 use Rattle.reading.specs.Numbers.{is_digit, grown, number_of, code_of}
-use Rattle.reading.specs.Kept.{Buffer, lone_zero, keep_byte, kept_from, kept_line, stored, after}
+use Rattle.reading.specs.Kept.{Buffer, lone_zero, keep_byte, kept_from, kept_line, after}
 
 -- ---- a 0 that leads
 

@@ -4,7 +4,7 @@ use mathlib.Core.Path.{◌≡◌, refl, sym, ap, ◌∙◌}
 use mathlib.Core.Bool.{Bool, true, false, cond}
 use mathlib.Core.List.{List, [], ◌∷◌, ◌++◌, append_assoc, append-nil}
 use mathlib.Core.Option.{Option, none, some}
-use Prim.Native.Nat.{ℕ, zero, suc, ◌+◌, ◌-◌, ◌<◌, ◌≤◌}
+use Prim.Native.Nat.{ℕ, zero, suc, ◌+◌, ◌-◌, ◌≤◌}
 use native.Mathlib.Omega.{arith}
 use lib.Dec.{eqb}
 use lib.ListN.{length, take, drop, length-append, length-drop, drop_of_length-le}
@@ -21,7 +21,7 @@ use Rattle.reading.specs.declared.lines.Row.TheVariants.{Words, NoRow}
 use Rattle.reading.specs.Numbers.{number_of}
 use Rattle.reading.specs.Fields.{fields_of, field, letter_of}
 use Rattle.reading.specs.Lists.{before, numbers_of, items_of, list_of, listed, list_words, filled}
-use Rattle.reading.specs.Lines.{Read, plain, with_list, with_row, row_of, segment_line}
+use Rattle.reading.specs.Lines.{Read, plain, row_of, segment_line}
 use Rattle.reading.proofs.Chain.{is, is-not}
 
 -- ---- a list that was measured

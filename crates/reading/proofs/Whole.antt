@@ -2,19 +2,19 @@
 -- Assumes nothing.
 use mathlib.Core.Path.{◌≡◌, refl, sym, ap, ◌∙◌}
 use mathlib.Core.Bool.{Bool, true, false, cond}
-use mathlib.Core.List.{List, [], ◌∷◌, ◌++◌}
+use mathlib.Core.List.{List, [], ◌∷◌}
 use mathlib.Core.Option.{Option, none, some}
 use Prim.Native.Nat.{ℕ, zero, suc, ◌<◌, ◌≤◌}
 use native.Mathlib.Omega.{arith}
 use borrow.Author.Tests.{eq-eqb, ne_eqb}
 use lib.Dec.{eqb}
-use lib.ListN.{length, drop}
+use lib.ListN.{length}
 use Rattle.reading.specs.declared.numbers.Number.{Number}
 use Rattle.reading.specs.declared.numbers.Number.TheVariants.{Value, NoNumber}
 use Rattle.reading.specs.declared.lists.Listed.{Listed}
 use Rattle.reading.specs.declared.lists.Listed.TheVariants.{Items, NoList}
 use Rattle.reading.specs.Numbers.{number_of}
-use Rattle.reading.specs.Fields.{split, letter_of}
+use Rattle.reading.specs.Fields.{letter_of}
 use Rattle.reading.specs.Lists.{before, numbers_of, items_of, list_of, listed, list_words, filled, front, front_with}
 
 pub no_items : (f : List ℕ) (room b : ℕ) → b ≡ letter_of f → b ≡ 45 → Items 0 ≡ listed (list_of room f)

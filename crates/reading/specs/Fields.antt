@@ -2,7 +2,6 @@
 -- fields, so that two spaces have an empty field between them, and an empty field is unreadable.
 -- Assumes nothing.
 use Rattle.std.specs.Prelude.{ℕ, suc, cond, List, [], ◌∷◌, eqb, get_or}
-use Rattle.types.specs.declared.records.Optional.{Optional}
 use Rattle.reading.specs.declared.numbers.Number.{Number}
 use Rattle.reading.specs.declared.numbers.Number.TheVariants.{Value, NoNumber}
 use Rattle.reading.specs.declared.fields.Choice.{Choice}

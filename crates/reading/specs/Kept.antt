@@ -1,7 +1,7 @@
 -- Document 01, "The listing program": a number may have leading zeros, any number of them, and a line is read in bounded room. A digit
 -- that comes after a number that so far is a single 0 takes its place, so that a readable line keeps few bytes.
 -- Assumes nothing.
-use Rattle.std.specs.Prelude.{ℕ, Bool, true, false, cond, ◌&&◌, ◌||◌, List, [], ◌∷◌, ◌++◌, eqb, ltb, leb, length, take, drop, get_or, ◌-◌}
+use Rattle.std.specs.Prelude.{ℕ, Bool, cond, ◌&&◌, ◌||◌, List, [], ◌∷◌, ◌++◌, eqb, leb, length, take, drop, get_or, ◌-◌}
 use Rattle.reading.specs.declared.kept.Kept.{Kept}
 use Rattle.reading.specs.declared.kept.Kept.TheVariants.{Bytes, TooLong}
 use Rattle.reading.specs.Numbers.{zero_byte, minus_byte, is_digit}

@@ -2,11 +2,10 @@
 -- and comma lists; p a placement's id, URL, TLS or `-`; e code, message; n, c, t the three names; `.` ends. O: segment, S or B, history,
 -- completed." A line is one letter and its fields. What is not written so is unreadable; so is a list beyond its room.
 -- Assumes nothing.
-use Rattle.std.specs.Prelude.{◌≡◌, ℕ, ◌-◌, Bool, true, false, cond, List, [], ◌∷◌, ◌++◌, eqb, length}
+use Rattle.std.specs.Prelude.{◌≡◌, ℕ, ◌-◌, cond, List, [], ◌++◌, eqb, length}
 use Rattle.std.proofs.Math.Option.{Option, none, some}
 use Rattle.types.specs.declared.records.Optional.{Optional}
 use Rattle.types.specs.declared.records.SegmentInfo.{SegmentInfo}
-use Rattle.types.specs.declared.records.Broker.{Broker}
 use Rattle.types.specs.declared.records.Name.{Name}
 use Rattle.types.specs.declared.records.OrderingMode.{OrderingMode}
 use Rattle.types.specs.declared.records.OrderingMode.TheVariants.{Strict, BrokerManaged}

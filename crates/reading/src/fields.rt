@@ -8,7 +8,7 @@ use crate::{numbers, spans};
 use types::records::Optional;
 
 // An optional field.
-#[derive(Drop)]
+#[derive(Clone, Copy)]
 pub enum Choice {
     Chosen(Optional),
     NoChoice,

@@ -4,7 +4,7 @@ ghost use Rattle.reading.specs.Numbers.{is_digit};
 ghost use Rattle.reading.specs.Kept.{is_edge, lone_zero, after};
 
 // How many bytes of the buffer hold the line.
-#[derive(Drop)]
+#[derive(Clone, Copy)]
 pub enum Kept {
     Bytes(usize),
     TooLong,

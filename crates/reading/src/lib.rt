@@ -1,5 +1,7 @@
 // What the listing program reads: numbers, codes, optional fields and lists, and each kind of line. Every call answers for every
 // line of bytes; the program prints and keeps order.
+#![tactic(auto)]
+
 pub mod fields;
 mod items;
 pub mod kept;

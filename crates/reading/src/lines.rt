@@ -11,7 +11,7 @@ use crate::{fields, lists};
 use types::records::{Broker, Name, Optional, OrderingMode, SegmentId, SegmentInfo};
 
 // What a line says. Lists stand in the lent words; here are their lengths.
-#[derive(Drop)]
+#[derive(Clone, Copy)]
 pub enum Line {
     // S
     Session(u64),
@@ -39,14 +39,14 @@ pub enum Line {
 }
 
 // The words of a segment line.
-#[derive(Drop)]
+#[derive(Clone, Copy)]
 pub enum Row {
     Words(SegmentInfo),
     NoRow,
 }
 
 // The mode of an ordering query.
-#[derive(Drop)]
+#[derive(Clone, Copy)]
 pub enum Mode {
     Known(OrderingMode),
     NoMode,

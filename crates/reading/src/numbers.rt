@@ -3,14 +3,14 @@ ghost use Rattle.std.specs.Prelude.{◌≡◌};
 ghost use Rattle.reading.specs.Numbers.{grown, number_of, code_of, plain_code, minus_code};
 
 // A number of at most 64 bits.
-#[derive(Drop)]
+#[derive(Clone, Copy)]
 pub enum Number {
     Value(u64),
     NoNumber,
 }
 
 // A signed code of 32 bits, as its 32 bits.
-#[derive(Drop)]
+#[derive(Clone, Copy)]
 pub enum Code {
     Bits(u32),
     NoCode,

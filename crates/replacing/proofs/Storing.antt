@@ -3,7 +3,7 @@
 -- Assumes nothing.
 use Prim.Native.Nat.{ℕ, ◌+◌, ◌*◌, ◌≤◌}
 use native.Mathlib.Omega.{arith}
-use mathlib.Core.Path.{◌≡◌, refl, sym, ap, ◌∙◌}
+use mathlib.Core.Path.{◌≡◌, refl, ap, ◌∙◌}
 use mathlib.Core.List.{List}
 use lib.ListN.{length, take, replicate}
 use Rattle.lists.specs.Lists.{front}
@@ -11,7 +11,6 @@ use Rattle.words.specs.Part.{part}
 use Rattle.answers.specs.declared.Refusal.{Refusal}
 use Rattle.answers.specs.declared.Judged.{Judged}
 use Rattle.answers.specs.declared.Judged.TheVariants as J
-use Rattle.answers.specs.declared.Updated.{Updated}
 use Rattle.answers.specs.declared.Updated.TheVariants as U
 use Rattle.answers.specs.declared.DagDelta.{DagDelta}
 use Rattle.rules.specs.Tables.{held_width}
@@ -21,7 +20,7 @@ use Rattle.tabled.specs.Image.{image_rows, image_edges, image_segments}
 use Rattle.tabled.proofs.Kept.{rows-kept, edges-kept, part-kept}
 use Rattle.delta.specs.Changed.{delta_from, changed_from}
 use Rattle.layout.specs.Laid.{order_at}
-use Rattle.replacing.specs.Stored.{Room, Storable, pairs_at, stored_from, Stored, Finished}
+use Rattle.replacing.specs.Stored.{pairs_at, Stored, Finished}
 
 -- w₁ is what writing the delta left of w
 module _ (w w₁ : List ℕ) (n e epoch h : ℕ) (a : Areas) (c : Changes) (same : length w₁ ≡ length w) (kept : take (pairs_at n e) w₁ ≡ take (pairs_at n e) w) where

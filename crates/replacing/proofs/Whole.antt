@@ -1,11 +1,11 @@
 -- The chain of a replacement, and what it leaves in each lent area and list, at each way out of the call.
 -- Assumes nothing.
-use Prim.Native.Nat.{ℕ, ◌+◌, ◌*◌, ◌/◌, ◌≤◌}
+use Prim.Native.Nat.{ℕ, ◌/◌, ◌≤◌}
 use native.Mathlib.Omega.{arith}
 use mathlib.Core.Path.{◌≡◌, refl, sym, ap, ◌∙◌}
-use mathlib.Core.Bool.{Bool, true, false, not, ◌&&◌, ◌||◌}
+use mathlib.Core.Bool.{Bool, true, false}
 use mathlib.Core.List.{List}
-use lib.ListN.{length, replicate}
+use lib.ListN.{length}
 use Rattle.answers.specs.declared.Refusal.{Refusal}
 use Rattle.answers.specs.declared.Judged.{Judged}
 use Rattle.answers.specs.declared.Judged.TheVariants as J
@@ -13,25 +13,24 @@ use Rattle.answers.specs.declared.Updated.{Updated}
 use Rattle.answers.specs.declared.Updated.TheVariants as U
 use Rattle.answers.specs.Answer.{refuse0}
 use Rattle.types.specs.declared.limits.DagLimits.{DagLimits}
-use Rattle.rules.specs.Model.{Segment, Placement, by_id}
-use Rattle.rules.specs.Tables.{row_width, held_width, place_width, segments, placements}
+use Rattle.rules.specs.Model.{Segment, by_id}
+use Rattle.rules.specs.Tables.{row_width, place_width, segments, placements}
 use Rattle.rules.specs.Shape.{bad_layout, bad_held}
 use Rattle.rules.specs.Room.{no_room_to_update}
 use Rattle.rules.specs.Delta.{widths_active}
 use Rattle.rules.specs.Layout.{layout_rule}
-use Rattle.rules.specs.Judge.{Tables, Areas, segments_in, placements_in, filled, cleared_if}
+use Rattle.rules.specs.Judge.{Tables, Areas, segments_in, placements_in, filled}
 use Rattle.rules.specs.Update.{Changes, judged, bad_tables, short_to_update, replace_rule, held_before, updated_of, if_accepted, changed, past_update_room}
 use Rattle.rules.proofs.Accepts.{layout-passes}
 use Rattle.rules.proofs.Ascended.{active-by_id}
 use Rattle.shape.proofs.Good.{layout-rows, layout-counts, layout-places, held-fit, held-ascend}
 use Rattle.shape.proofs.Enough.{Update, enough-to-update}
 use Rattle.tabled.specs.Image.{image_segments}
-use Rattle.paired.specs.Tables.{Rows}
 use Rattle.delta.specs.Changed.{delta_from, changed_from}
 use Rattle.delta.proofs.Ruled.{delta-ruled, changed-ruled, covered-handover}
 use Rattle.layout.specs.Laid.{Fit, LaidOut}
 use Rattle.layout.specs.Lent.{tables_of, areas_of}
-use Rattle.replacing.specs.Stored.{Room, Storable, pairs_at, stored_from, answer_of, Finished}
+use Rattle.replacing.specs.Stored.{Room, Storable, stored_from, answer_of, Finished}
 use Rattle.replacing.specs.Lent.{changes_of, Replaced}
 
 module _ (h g epoch size : ℕ) (limits : DagLimits) (rows edges places work held links order added removed splits merges : List ℕ) where

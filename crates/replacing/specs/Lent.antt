@@ -2,7 +2,6 @@
 -- "Acceptance replaces the held layout." "Refusals change no lent word, .. and the work area is all zero after any call that got past 2."
 -- Assumes nothing.
 use Rattle.std.specs.Prelude.{ℕ, ◌≡◌, List, length}
-use Rattle.answers.specs.declared.Judged.{Judged}
 use Rattle.answers.specs.declared.Updated.{Updated}
 use Rattle.types.specs.declared.limits.DagLimits.{DagLimits}
 use Rattle.rules.specs.Judge.{Tables, Areas, segments_in, filled, cleared_if}

@@ -1,5 +1,7 @@
 // A layout replaces the one that is held: judged in the work area, told apart from the old rows, and only then stored over them. The counts of
 // what is held come as numbers, so that nothing here knows of sessions.
+#![tactic(auto)]
+
 ghost use Rattle.std.specs.Prelude.{◌+◌, ◌*◌, ◌≡◌, length};
 ghost use Rattle.answers.specs.declared.Judged.TheVariants.{Accepted};
 ghost use Rattle.layout.specs.Lent.{tables_of, areas_of};

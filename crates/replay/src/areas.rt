@@ -6,7 +6,7 @@ use crate::{line, names};
 use answers::Judged;
 
 // The first thing that is not as expected, by its number in names.rt, 0 where all is as expected. Place 0 is its length, the words count from 1.
-#[derive(Drop)]
+#[derive(Clone, Copy)]
 pub struct Difference {
     pub what: usize,
     pub at: usize,
@@ -44,10 +44,8 @@ pub fn lay(area: &mut [u64; 2048], line: &[u64], first: usize, k: usize)
     ensures { 2048 ≡ length area.new }
 {
     let p = line::part_of(line, first, k);
-    let mut i = 0;
-    while i < ROOM {
+    for i in 0..ROOM {
         area[i] = line::word_of(line, p, i);
-        i += 1;
     }
 }
 
@@ -97,15 +95,13 @@ fn compare_words(
 ) -> Difference
     requires { length ≤ 2048 }
 {
-    let mut i = 0;
-    while i < length {
+    for i in 0..length {
         let expected = line::word_of(line, p, i);
         let found = area[i];
-        i += 1;
         if found != expected {
             return Difference {
                 what,
-                at: i,
+                at: i + 1,
                 found,
                 expected,
             };
@@ -146,15 +142,13 @@ pub fn compare_numbers(
     if d.what != 0 {
         return d;
     }
-    let mut i = 0;
-    while i < words.len() {
+    for i in 0..words.len() {
         let expected = line::number_at(line, line::further(at, i as u64));
         let found = words[i];
-        i += 1;
         if found != expected {
             return Difference {
                 what,
-                at: i,
+                at: i + 1,
                 found,
                 expected,
             };

@@ -47,10 +47,8 @@ fn walk(line: &[u64], rows: &[u64], len: usize) -> Turn {
         number_at(line, 2),
         number_at(line, 3),
     );
-    let mut i = 0;
-    while i < len {
+    for i in 0..len {
         t = turn_at(t, line, rows, i, len);
-        i += 1;
     }
     t
 }

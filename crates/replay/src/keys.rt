@@ -2,6 +2,7 @@
 // cases of each key were equal.
 use crate::line;
 use crate::names::{answer_name, say, text};
+use std::io;
 
 const ACCEPTED: usize = 64;
 
@@ -39,11 +40,11 @@ fn ordering_key(outcome: u64, number: u64) -> usize {
     }
 }
 
-fn key_name(key: usize) {
+fn key_name(rt: &impl Print, key: usize) -> io::Result<()> {
     if key < ACCEPTED {
-        say(b"", key as u64);
+        say(rt, b"", key as u64)
     } else {
-        answer_name(key - ACCEPTED);
+        answer_name(rt, key - ACCEPTED)
     }
 }
 
@@ -74,18 +75,18 @@ pub fn count(counts: &mut [u64], key: usize) {
 }
 
 // A key that was met, and how often.
-fn show_count(key: usize, n: u64) {
+fn show_count(rt: &impl Print, key: usize, n: u64) -> io::Result<()> {
     if n > 0 {
-        key_name(key);
-        say(b": ", n);
-        text(b"\n");
+        key_name(rt, key)?;
+        say(rt, b": ", n)?;
+        text(rt, b"\n")?;
     }
+    Ok(())
 }
 
-pub fn show(counts: &[u64]) {
-    let mut key = 0;
-    while key < counts.len() {
-        show_count(key, counts[key]);
-        key += 1;
+pub fn show(rt: &impl Print, counts: &[u64]) -> io::Result<()> {
+    for (key, n) in counts.iter().enumerate() {
+        show_count(rt, key, *n)?;
     }
+    Ok(())
 }

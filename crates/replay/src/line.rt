@@ -5,7 +5,7 @@
 pub const ROOM: usize = 2048;
 
 // Where a part's words stand, from `from` to before `end`, and where the next part begins.
-#[derive(Drop)]
+#[derive(Clone, Copy)]
 pub struct Part {
     pub length: usize,
     pub from: usize,
@@ -53,10 +53,8 @@ fn part_at(line: &[u64], at: usize) -> Part {
 // Part k, counted from 0, of those that begin at `first`.
 pub fn part_of(line: &[u64], first: usize, k: usize) -> Part {
     let mut p = part_at(line, first);
-    let mut i = 0;
-    while i < k {
+    for _ in 0..k {
         p = part_at(line, p.next);
-        i += 1;
     }
     p
 }
@@ -85,14 +83,12 @@ fn is_good(p: Part, is_table: bool) -> bool {
 // The line ends after that many parts, of which the first are tables.
 pub fn is_whole(line: &[u64], first: usize, tables: usize, parts: usize) -> bool {
     let mut next = first;
-    let mut i = 0;
-    while i < parts {
+    for i in 0..parts {
         let p = part_at(line, next);
         if !is_good(p, i < tables) {
             return false;
         }
         next = p.next;
-        i += 1;
     }
     next == line.len()
 }

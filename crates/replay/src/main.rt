@@ -1,8 +1,11 @@
 // A stored sample of answers, replayed: each line of standard input is a call with all that it is lent, and what is expected of it. The call is
 // made, and its answer and every lent word afterwards are held against the line. Numbers are decimal, one space apart; docs/DIFFERENCES.md says
 // how the sample is made. The lines of each call are described in its file, and parts of a line in line.rt.
+#![tactic(auto)]
+
 use crate::areas::Difference;
 use crate::reader::Reader;
+use std::io;
 
 mod areas;
 mod asked;
@@ -32,76 +35,88 @@ fn replay(line: &[u64]) -> Difference {
 }
 
 // What differs, with the line's number.
-fn show_difference(lines: u64, d: Difference) {
-    names::say(b"line ", lines);
-    names::text(b": ");
-    names::part_name(d.what);
-    names::say(b"place ", d.at as u64);
-    names::say(b" is ", d.found);
-    names::say(b" where expected ", d.expected);
-    names::text(b"\n");
+fn show_difference(rt: &impl Print, lines: u64, d: Difference) -> io::Result<()> {
+    names::say(rt, b"line ", lines)?;
+    names::text(rt, b": ")?;
+    names::part_name(rt, d.what)?;
+    names::say(rt, b"place ", d.at as u64)?;
+    names::say(rt, b" is ", d.found)?;
+    names::say(rt, b" where expected ", d.expected)?;
+    names::text(rt, b"\n")
 }
 
 // A whole line.
-fn take_line(r: Reader, line: &[u64], counts: &mut [u64]) -> Reader {
+fn take_line(rt: &impl Print, r: Reader, line: &[u64], counts: &mut [u64]) -> io::Result<Reader> {
     let mut d = areas::UNREAD;
     if !r.bad {
         d = replay(line);
     }
     let next = reader::next_line(r, d.what != 0);
     if d.what != 0 {
-        show_difference(next.lines, d);
-        return next;
+        show_difference(rt, next.lines, d)?;
+        return Ok(next);
     }
     keys::count(counts, keys::key_of(line));
-    next
+    Ok(next)
 }
 
 // The line's last number, and the line.
-fn end_line(r: Reader, token: &[u8], line: &mut [u64], counts: &mut [u64]) -> Reader {
+fn end_line(
+    rt: &impl Print,
+    r: Reader,
+    token: &[u8],
+    line: &mut [u64],
+    counts: &mut [u64],
+) -> io::Result<Reader> {
     let next = reader::end_number(r, token, line);
-    take_line(next, reader::first(line, next.words), counts)
+    take_line(rt, next, reader::first(line, next.words), counts)
 }
 
 // One byte more.
-fn take(r: Reader, b: u8, token: &mut [u8], line: &mut [u64], counts: &mut [u64]) -> Reader {
+fn take(
+    rt: &impl Print,
+    r: Reader,
+    b: u8,
+    token: &mut [u8],
+    line: &mut [u64],
+    counts: &mut [u64],
+) -> io::Result<Reader> {
     if b == b' ' {
-        return reader::end_number(r, token, line);
+        return Ok(reader::end_number(r, token, line));
     }
     if b == b'\n' {
-        return end_line(r, token, line, counts);
+        return end_line(rt, r, token, line, counts);
     }
-    reader::keep(r, b, token)
+    Ok(reader::keep(r, b, token))
 }
 
-fn show(r: Reader, counts: &[u64]) {
-    keys::show(counts);
-    names::say(b"", r.lines);
-    names::say(b" cases, ", r.differ);
-    names::text(b" differ\n");
+fn show(rt: &impl Print, r: Reader, counts: &[u64]) -> io::Result<()> {
+    keys::show(rt, counts)?;
+    names::say(rt, b"", r.lines)?;
+    names::say(rt, b" cases, ", r.differ)?;
+    names::text(rt, b" differ\n")
 }
 
-fn main() {
+fn main(rt: HostRuntime) -> io::Result<()> {
     let mut token = [0u8; 20];
     let mut line = [0u64; 2048];
     let mut counts = [0u64; 73];
-    let mut buffer = io::buffer();
+    let mut input = rt.stdin();
+    let mut buffer = [0u8; 4096];
     let mut n = 0;
     let mut i = 0;
     let mut r = reader::start();
     // no input has as many bytes
-    let mut left = u64::MAX;
-    while left > 0 {
-        left -= 1;
+    for _ in 0..u64::MAX {
         let had = n;
-        n = lister::refill(&mut buffer, i, had);
+        n = lister::refill(&mut input, &mut buffer, i, had)?;
         i = lister::place_in(i, had);
         if n == 0 {
-            show(r, &counts);
-            return;
+            return show(&rt, r, &counts);
         }
         let b = lister::byte_at(&buffer, i);
-        r = take(r, b, &mut token, &mut line, &mut counts);
+        r = take(&rt, r, b, &mut token, &mut line, &mut counts)?;
         i = lister::place_after(i);
     }
+    Ok(())
 }

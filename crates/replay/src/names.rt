@@ -1,5 +1,5 @@
 // What is printed. Names stand in tables of 15 bytes each.
-use libc::STDOUT_FILENO;
+use std::io;
 
 // What can differ.
 pub const UNREAD: usize = 1;
@@ -18,39 +18,42 @@ pub const WORK: usize = 7;
 
 pub const ADDED: usize = 11;
 
-pub fn text(bytes: &[u8]) {
-    io::write_all(STDOUT_FILENO, bytes);
+pub fn text(rt: &impl Print, bytes: &[u8]) -> io::Result<()> {
+    rt.write_all(bytes)
 }
 
-pub fn say(before: &[u8], n: u64) {
-    text(before);
-    io::print_decimal(STDOUT_FILENO, n);
+pub fn say(rt: &impl Print, before: &[u8], n: u64) -> io::Result<()> {
+    text(rt, before)?;
+    rt.print(n)
 }
 
 // Name i of a table, if it has one.
-fn name(table: &[u8], i: usize) {
+fn name(rt: &impl Print, table: &[u8], i: usize) -> io::Result<()> {
     if i >= 16 {
-        return;
+        return Ok(());
     }
     let from = i * 15;
     let to = from + 15;
     if to <= table.len() {
-        text(&table[from..to]);
+        text(rt, &table[from..to])?;
     }
+    Ok(())
 }
 
 // Of a part of a case.
-pub fn part_name(what: usize) {
+pub fn part_name(rt: &impl Print, what: usize) -> io::Result<()> {
     name(
+        rt,
         b"none           not read       answer         session        stretch        first list     second list    work           held rows      held edges     order          added          removed        splits         merges         ",
         what,
-    );
+    )
 }
 
 // Of an answer that refuses nothing.
-pub fn answer_name(i: usize) {
+pub fn answer_name(rt: &impl Print, i: usize) -> io::Result<()> {
     name(
+        rt,
         b"accepted       stale          split          merge          removed        unknown        blocked        eligible       broker-managed ",
         i,
-    );
+    )
 }

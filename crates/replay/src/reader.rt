@@ -2,7 +2,7 @@
 use reading::numbers::{Number, read_number};
 
 // Where the reading stands between two bytes.
-#[derive(Drop)]
+#[derive(Clone, Copy)]
 pub struct Reader {
     // bytes of the number, and numbers of the line
     pub bytes: usize,

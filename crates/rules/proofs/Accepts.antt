@@ -15,9 +15,9 @@ use Rattle.lists.specs.Sort.{insert}
 use Rattle.lists.specs.Sets.{Ascending}
 use Rattle.lists.proofs.Cases.{lt-or-le, eq-or-ne}
 use Rattle.lists.proofs.SortLaws.{true-or-false}
-use Rattle.lists.proofs.SetLaws.{never, here, there, in-cons, in_left, in_right}
+use Rattle.lists.proofs.SetLaws.{never, here, here_eq, there, in-cons, in_left, in_right}
 use Rattle.answers.specs.declared.Judged.TheVariants.{Accepted}
-use Rattle.answers.specs.Answer.{when, ◌then◌, refuse1, refuse2}
+use Rattle.answers.specs.Answer.{when, refuse1, refuse2}
 use Rattle.answers.proofs.Judging.{then-both, when-not}
 use Rattle.types.specs.declared.limits.DagLimits.{DagLimits}
 use Rattle.rules.specs.Model.{Segment, Placement, ids_of, lookup, id_le, by_id}
@@ -83,7 +83,7 @@ module _ (layout limit : ℕ) where
   ids-seen z p c seen (s ∷ ss) e h =
       let r = row-passed seen p c s ss e in
       let other : s.head.id ≡ z → ⊥ = λ q. never (sym r.new ∙ (ap (λ (k : ℕ). has k seen) q ∙ h)) in
-      omega (arith, ap tick (ne_eqb s.head.id z other), ids-seen z _ _ (seen ++ (s.head.id ∷ [])) ss r.rest (in_left z seen (s.head.id ∷ []) h))
+      omega (arith, ap tick (ne_eqb s.head.id z other), ids-seen z (p + length s.parents) (c + length s.children) (seen ++ (s.head.id ∷ [])) ss r.rest (in_left z seen (s.head.id ∷ []) h))
 
   ids-once : (z p c : ℕ) (seen : List ℕ) (ss : List Segment) → rows_from layout limit seen p c ss ≡ Accepted → times z (ids_of ss) ≤ 1
   ids-once z p c seen [] e = zero-le
@@ -91,16 +91,16 @@ module _ (layout limit : ℕ) where
       let r = row-passed seen p c s ss e in
       ⊎_elim
       (λ (q : s.head.id ≡ z).
-      let held : z ∈ (seen ++ (s.head.id ∷ [])) = in_right z seen (s.head.id ∷ []) (rw (← q) (here s.head.id [])) in
-      omega (arith, ap tick (eq-eqb s.head.id z q), ids-seen z _ _ (seen ++ (s.head.id ∷ [])) ss r.rest held))
-      (λ (q : s.head.id ≡ z → ⊥). omega (arith, ap tick (ne_eqb s.head.id z q), ids-once z _ _ (seen ++ (s.head.id ∷ [])) ss r.rest))
+      let held : z ∈ (seen ++ (s.head.id ∷ [])) = in_right z seen (s.head.id ∷ []) (here_eq z s.head.id [] (sym q)) in
+      omega (arith, ap tick (eq-eqb s.head.id z q), ids-seen z (p + length s.parents) (c + length s.children) (seen ++ (s.head.id ∷ [])) ss r.rest held))
+      (λ (q : s.head.id ≡ z → ⊥). omega (arith, ap tick (ne_eqb s.head.id z q), ids-once z (p + length s.parents) (c + length s.children) (seen ++ (s.head.id ∷ [])) ss r.rest))
       (eq-or-ne s.head.id z)
 
   row_of : (x p c : ℕ) (seen : List ℕ) (ss : List Segment) → rows_from layout limit seen p c ss ≡ Accepted → (s : Segment) → lookup x ss ≡ some s → row_rule layout s ≡ Accepted
   row_of x p c seen [] e s f = let q : ◌≡◌ {A = ℕ} 0 1 = cc in absurd (omega arith)
   row_of x p c seen (t ∷ ss) e s f =
       let r = row-passed seen p c t ss e in
-      go (row_of x _ _ (seen ++ (t.head.id ∷ [])) ss r.rest s) r.row (eqb t.head.id x) f
+      go (row_of x (p + length t.parents) (c + length t.children) (seen ++ (t.head.id ∷ [])) ss r.rest s) r.row (eqb t.head.id x) f
     where
       go : (lookup x ss ≡ some s → row_rule layout s ≡ Accepted) → row_rule layout t ≡ Accepted → (b : Bool) → cond b (some t) (lookup x ss) ≡ some s → row_rule layout s ≡ Accepted
       go ih own true k = let same : t ≡ s = cc in rw (← same) own
@@ -126,7 +126,7 @@ in_insert z s (t ∷ l) h = go (in_insert z s l) (id_le s t) h
   where
     go : (z ∈ ids_of (insert id_le s l) → (z ≡ s.head.id) ⊎ (z ∈ ids_of l)) → (b : Bool) → z ∈ ids_of (cond b (s ∷ t ∷ l) (t ∷ insert id_le s l)) → (z ≡ s.head.id) ⊎ (z ∈ (t.head.id ∷ ids_of l))
     go ih true k = in-cons z s.head.id (t.head.id ∷ ids_of l) k
-    go ih false k = ⊎_elim (λ (q : z ≡ t.head.id). inr (rw q (here t.head.id (ids_of l)))) (λ (q : z ∈ ids_of (insert id_le s l)). ⊎_elim (λ w. inl w) (λ (w : z ∈ ids_of l). inr (there z t.head.id (ids_of l) w)) (ih q)) (in-cons z t.head.id (ids_of (insert id_le s l)) k)
+    go ih false k = ⊎_elim (λ (q : z ≡ t.head.id). inr (here_eq z t.head.id (ids_of l) q)) (λ (q : z ∈ ids_of (insert id_le s l)). ⊎_elim (λ w. inl w) (λ (w : z ∈ ids_of l). inr (there z t.head.id (ids_of l) w)) (ih q)) (in-cons z t.head.id (ids_of (insert id_le s l)) k)
 
 insert-up : (s : Segment) (l : List Segment) → s.head.id ∉ ids_of l → Ascending (ids_of l) → Ascending (ids_of (insert id_le s l))
 insert-up s [] h a = ((λ y k. never k), tt)

@@ -16,7 +16,7 @@ use Rattle.lists.specs.Lists.{has, tick, ◌∈◌, ◌∉◌}
 use Rattle.lists.specs.Sets.{Ascending, add, add_all}
 use Rattle.lists.proofs.Cases.{lt-or-le, eq-or-ne}
 use Rattle.lists.proofs.SortLaws.{true-or-false}
-use Rattle.lists.proofs.SetLaws.{never, here, there, in-cons, has-append, in_take, in-add, asc-add, length-add, in_all, asc-all, fits}
+use Rattle.lists.proofs.SetLaws.{never, here_eq, there, in-cons, has-append, in_take, in-add, asc-add, length-add, in_all, asc-all, fits}
 use Rattle.rules.specs.Model.{Segment, ids_of, lookup}
 use Rattle.rules.specs.Order.{Node, node_of, first_ready, taken, depth_of, touched_node, touched, Visited, on, deep, visit, in_order, after_pick, after_visit, order_from}
 
@@ -159,7 +159,7 @@ ready-in [] x e = let q : ◌≡◌ {A = ℕ} 0 1 = cc in absurd (omega arith)
 ready-in (y ∷ N) x e = go (ready-in N x) y.ready e
   where
     go : (first_ready N ≡ some x → x.id ∈ node_ids N) → (t : Bool) → cond t (some y) (first_ready N) ≡ some x → x.id ∈ (y.id ∷ node_ids N)
-    go ih true k = let same : y ≡ x = cc in rw (← same) (here y.id (node_ids N))
+    go ih true k = let same : y ≡ x = cc in here_eq x.id y.id (node_ids N) (ap (λ (n : Node). n.id) (sym same))
     go ih false k = there x.id y.id (node_ids N) (ih k)
 
 -- where ids ascend it is the node of its id

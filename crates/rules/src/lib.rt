@@ -1,5 +1,6 @@
 // The rule book: document 01 as definitions, one file a section, in its order; and the theorems about them. Its specs/ are the
 // product's face. Here stand the row widths of the tables and the one type that rules and code share.
+#![tactic(auto)]
 
 // The words of a segment row, of a held row, of a placement row; and how many words segment rows and held rows begin with alike.
 pub const ROW: usize = 11;
@@ -11,7 +12,7 @@ pub const PLACE: usize = 4;
 pub const HEAD: usize = 11;
 
 // How a walk over ranges in order ended.
-#[derive(Drop)]
+#[derive(Clone, Copy)]
 pub enum Walked {
     Tiled,
     // the hash expected, and start and id of the range that does not start there

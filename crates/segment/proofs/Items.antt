@@ -1,9 +1,9 @@
 -- One edge list, item by item: each way in which the item at `i` can end the rule, and what is left where it does not.
 -- Assumes nothing.
 use Prim.Native.Nat.{ℕ, zero, suc, ◌+◌, ◌≤◌, ◌<◌, zero-le, suc-le-suc}
-use mathlib.Core.Path.{◌≡◌, refl, sym, ◌∙◌}
-use mathlib.Core.Bool.{Bool, true, false}
-use mathlib.Core.List.{List, [], ◌∷◌, ◌++◌}
+use mathlib.Core.Path.{◌≡◌, refl}
+use mathlib.Core.Bool.{true, false}
+use mathlib.Core.List.{List, [], ◌∷◌}
 use native.Mathlib.Numerals.{add-one}
 use mathlib.Core.Logic.{⊎_elim}
 use native.Mathlib.Nat.{eq-or-lt_of_le, le_of_suc-le-suc, not-suc-le-zero}

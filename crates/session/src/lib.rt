@@ -1,5 +1,7 @@
 // The watch session between updates, as `DagWatchSession` of the Rust has it: a new one, what it knows, and whether a segment is held. Held
 // rows are lent beside it, so each call works on any words and requires nothing.
+#![tactic(auto)]
+
 ghost use Rattle.std.specs.Prelude.{◌≡◌, cond};
 ghost use Rattle.words.specs.Table.{ids, where_is};
 ghost use Rattle.rules.specs.Tables.{held_width};
@@ -12,7 +14,7 @@ use types::records::{Name, RowIndex, SegmentId, Session};
 use words::Found;
 
 // Where a segment is held: a row, never to be taken for an id.
-#[derive(Drop)]
+#[derive(Clone, Copy)]
 pub enum RowFound {
     At(RowIndex),
     Nothing,

@@ -50,7 +50,10 @@ module _ (rows : List ℕ) where
       let end : (i + 1) * held_width + held_width ≡ (i + 1 + 1) * held_width = omega arith in
       let row = next_row i in
       let rest = behind n (i + 1) in
-      rw (id, drop-drop, end) (search sides)
+      let tails : ids (drop held_width (drop ((i + 1) * held_width) rows)) held_width n ≡ ids (drop ((i + 1 + 1) * held_width) rows) held_width n = rw (drop-drop, end) refl in
+      sides _ _ _ _ _ _ row rest
+      ∙ ap (λ (x : ℕ). any_bad bad_held_row held_width rows (suc n) (i + 1) || not (ascending (get_or rows (i * held_width) 0 ∷ x ∷ ids (drop ((i + 1 + 1) * held_width) rows) held_width n))) (sym id)
+      ∙ ap (λ (t : List ℕ). any_bad bad_held_row held_width rows (suc n) (i + 1) || not (ascending (get_or rows (i * held_width) 0 ∷ get_or (drop ((i + 1) * held_width) rows) 0 0 ∷ t))) (sym tails)
 
   next-is : (n : ℕ) → any_bad bad_next held_width rows n 0 ≡ any_bad bad_held_row held_width rows n 0 || not (ascending (ids rows held_width n))
   next-is zero = refl

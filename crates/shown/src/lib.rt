@@ -1,72 +1,74 @@
 // What the programs print in the same words: numbers, lists, refusals, and how many words of an area are changed.
+#![tactic(auto)]
+
 ghost use Rattle.std.specs.Prelude.{◌+◌, ◌≤◌, ◌<◌};
 
 use answers::Refusal;
-use libc::STDOUT_FILENO;
+use std::io;
 
 // What the programs fill an area with: a word that no table of theirs has, so that what a call leaves alone can be seen.
 pub const SPARE: u64 = 1000000;
 
-pub fn text(bytes: &[u8]) {
-    io::write_all(STDOUT_FILENO, bytes);
+pub fn text(rt: &impl Print, bytes: &[u8]) -> io::Result<()> {
+    rt.write_all(bytes)
 }
 
-fn number(n: u64) {
-    io::print_decimal(STDOUT_FILENO, n);
+fn number(rt: &impl Print, n: u64) -> io::Result<()> {
+    rt.print(n)
 }
 
 // A space and the number.
-pub fn word(n: u64) {
-    text(b" ");
-    number(n);
+pub fn word(rt: &impl Print, n: u64) -> io::Result<()> {
+    text(rt, b" ")?;
+    number(rt, n)
 }
 
 // A word of a list and what stands before it. One that no call has written shows as `_`.
-fn item(i: usize, id: u64) {
+fn item(rt: &impl Print, i: usize, id: u64) -> io::Result<()> {
     if i == 0 {
-        text(b" ");
+        text(rt, b" ")?;
     } else {
-        text(b",");
+        text(rt, b",")?;
     }
     if id == SPARE {
-        text(b"_");
+        text(rt, b"_")
     } else {
-        number(id);
+        number(rt, id)
     }
 }
 
 // A space and the words with commas, or `-` where there are none.
-pub fn ids(list: &[u64]) {
+pub fn ids(rt: &impl Print, list: &[u64]) -> io::Result<()> {
     if list.len() == 0 {
-        text(b" -");
+        text(rt, b" -")?;
     }
-    let mut i = 0;
-    while i < list.len() {
-        item(i, list[i]);
-        i += 1;
+    for (i, id) in list.iter().enumerate() {
+        item(rt, i, *id)?;
     }
+    Ok(())
 }
 
-pub fn area(label: &[u8], list: &[u64]) {
-    text(label);
-    ids(list);
+pub fn area(rt: &impl Print, label: &[u8], list: &[u64]) -> io::Result<()> {
+    text(rt, label)?;
+    ids(rt, list)
 }
 
 // The value, if the refusal carries one at this place.
-fn value(carried: u64, place: u64, v: u64) {
+fn value(rt: &impl Print, carried: u64, place: u64, v: u64) -> io::Result<()> {
     if place < carried {
-        word(v);
+        word(rt, v)?;
     }
+    Ok(())
 }
 
 // The number, and as many values as the fixed table gives it.
-pub fn refusal(r: Refusal) {
+pub fn refusal(rt: &impl Print, r: Refusal) -> io::Result<()> {
     let kind = answers::kinds::kind_of(r.number);
-    word(r.number);
-    value(kind.values, 0, r.a);
-    value(kind.values, 1, r.b);
-    value(kind.values, 2, r.c);
-    value(kind.values, 3, r.d);
+    word(rt, r.number)?;
+    value(rt, kind.values, 0, r.a)?;
+    value(rt, kind.values, 1, r.b)?;
+    value(rt, kind.values, 2, r.c)?;
+    value(rt, kind.values, 3, r.d)
 }
 
 // One more, if the word is another than this one.

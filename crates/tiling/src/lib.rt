@@ -1,5 +1,7 @@
 // Do ranges hold every hash of a target exactly once and no other? The test behind 31 and 32, and the rules 33 to 35, over ranges in a lent
 // part of the work area. A range is a row of three words: start, end, id. The rows are sorted where they stand.
+#![tactic(auto)]
+
 ghost use Rattle.std.specs.Prelude.{◌≡◌, Bool, true, false, ◌+◌, ◌-◌, ◌*◌, ◌≤◌, length, drop};
 ghost use Rattle.sorts.specs.Rows.{rows};
 ghost use Rattle.rules.specs.Tiling.{misfit, walk_end, walk_from, tiles, walked_rule, coverage_rule};

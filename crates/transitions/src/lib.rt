@@ -1,5 +1,7 @@
 // 30 to 35 over the image of a layout at the front of the work area: splits and merges keep their ranges, and the Active segments cover
 // every hash. Ranges are placed behind the image, from word `at` on.
+#![tactic(auto)]
+
 ghost use Rattle.std.specs.Prelude.{◌≡◌, ◌+◌, ◌*◌, ◌≤◌, length, take};
 ghost use Rattle.rules.specs.Tables.{held_width};
 ghost use Rattle.rules.specs.Tiling.{forks_from, joins_from, active_of, coverage_rule};

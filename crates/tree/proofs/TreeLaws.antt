@@ -4,15 +4,15 @@
 --     root, no-slots     the root is the least slot, by way of the word's parent and of the lesser child
 --     all-n, all_words     the tree of the empty set
 -- Assumes nothing.
-use mathlib.Core.Path.{◌≡◌, refl, sym, ap, ◌∙◌, subst}
+use mathlib.Core.Path.{◌≡◌, refl, sym, ap, ◌∙◌}
 use mathlib.Core.List.{List, [], ◌∷◌, ◌++◌, append-nil}
-use mathlib.Core.Logic.{◌⊎◌, inl, inr, ⊎_elim}
+use mathlib.Core.Logic.{◌⊎◌, inl, inr}
 use Prim.Native.Nat.{ℕ, zero-le, zero, suc, ◌+◌, ◌-◌, ◌*◌, ◌/◌, ◌<◌, ◌≤◌, min}
-use native.Mathlib.Nat.{two-mul, zero-add, suc-add, min-eq_left, min-eq_right, le_antisymm, le_of_suc-le-suc, not-suc-le-zero, le_refl, le_trans}
+use native.Mathlib.Nat.{two-mul, zero-add, suc-add, min-eq_left, min-eq_right, le_antisymm, le_of_suc-le-suc, le_refl, le_trans}
 use native.Mathlib.Decide.{ℕ_discrete, dec_le}
 use native.Mathlib.Omega.{arith}
 use lib.ListN.{length, get_or, drop, set, replicate, length-set, length-drop, get_or-replicate, get_or-eq_default}
-use lib.Seq.{drop-length, get_or-set_same, get_or-set_other, get_or-drop, drop-set-add}
+use lib.Seq.{drop-length, get_or-set_same, get_or-set_other, get_or-drop}
 use Rattle.tree.specs.Tree.{Lesser, Tree, TreeBut, Low, least}
 
 -- after the last store nothing is left to mend

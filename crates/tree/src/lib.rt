@@ -1,6 +1,8 @@
 // A set of node numbers below n that gives its least member at once, kept as a tournament tree in 2 * n words: word n + i is node i's
 // slot (i while i is in the set, n otherwise), and word k, for 1 <= k < n, is the lesser of the words 2 * k and 2 * k + 1. Word 0 is
 // not used. So word 1 is the least slot.
+#![tactic(auto)]
+
 ghost use Rattle.std.specs.Prelude.{◌≡◌, ℕ, ◌+◌, ◌*◌, ◌/◌, ◌<◌, ◌≤◌, min, length, get_or, drop, set, replicate};
 ghost use Rattle.tree.specs.Tree.{Tree, TreeBut, Low, least};
 

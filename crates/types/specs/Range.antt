@@ -1,6 +1,6 @@
 -- `KeyRange` of types.rs, with 10 to 12 of document 01 ("`KeyRange` alone uses 10 to 12 without the id; a range that `new` refuses has length 0").
 -- Assumes nothing.
-use Rattle.std.specs.Prelude.{ℕ, ◌+◌, ◌-◌, Bool, true, false, cond, ◌&&◌, ◌||◌, List, [], ◌∷◌, leb, ltb, eqb}
+use Rattle.std.specs.Prelude.{ℕ, ◌+◌, ◌-◌, Bool, cond, ◌&&◌, ◌||◌, List, [], ◌∷◌, leb, ltb, eqb}
 use Rattle.types.specs.declared.range.KeyRange.{KeyRange}
 use Rattle.types.specs.declared.range.Made.{Made}
 use Rattle.types.specs.declared.range.Made.TheVariants.{Range, StartOutOfBounds, EndOutOfBounds, Reversed}

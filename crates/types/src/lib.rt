@@ -1,4 +1,6 @@
 // The types of document 01 that a caller meets: hashes and ranges, ids and row numbers, states, limits, descriptors, sessions.
+#![tactic(auto)]
+
 pub mod limits;
 pub mod range;
 pub mod records;

@@ -4,14 +4,14 @@ ghost use Rattle.types.specs.Range.{range_of, width_of, is_empty, holds, holds_a
 
 const MAX_HASH: u64 = 65535;
 
-#[derive(Drop)]
+#[derive(Clone, Copy)]
 pub struct KeyRange {
     pub start: u64,
     pub end: u64,
 }
 
 // What `KeyRange::new` answers; `range_number` and `range_values` of specs/ say which refusal that is.
-#[derive(Drop)]
+#[derive(Clone, Copy)]
 pub enum Made {
     Range(KeyRange),
     StartOutOfBounds(u64),

@@ -3,22 +3,22 @@
 use answers::{Refusal, Updated};
 
 // A segment, whatever row it stands in.
-#[derive(Drop)]
+#[derive(Clone, Copy)]
 pub struct SegmentId(pub u64);
 
 // A row of a table, whatever segment stands there.
-#[derive(Drop)]
+#[derive(Clone, Copy)]
 pub struct RowIndex(pub usize);
 
 // An optional field of a table: a flag (0 absent, 1 present) and a word, which is unread when absent.
-#[derive(Drop)]
+#[derive(Clone, Copy)]
 pub struct Optional {
     pub flag: u64,
     pub word: u64,
 }
 
 // A segment row of 11 words, by value.
-#[derive(Drop)]
+#[derive(Clone, Copy)]
 pub struct SegmentInfo {
     pub id: SegmentId,
     pub start: u64,
@@ -32,7 +32,7 @@ pub struct SegmentInfo {
 }
 
 // A placement row of 4 words, by value.
-#[derive(Drop)]
+#[derive(Clone, Copy)]
 pub struct Broker {
     pub id: SegmentId,
     pub url: u64,
@@ -40,14 +40,14 @@ pub struct Broker {
 }
 
 // The placement that is joined to a segment row, if there is one.
-#[derive(Drop)]
+#[derive(Clone, Copy)]
 pub enum Placed {
     Nowhere,
     At(Broker),
 }
 
 // A held row of 15 words, by value: absent optional words are 0.
-#[derive(Drop)]
+#[derive(Clone, Copy)]
 pub struct SegmentDescriptor {
     pub info: SegmentInfo,
     pub url: Optional,
@@ -55,14 +55,14 @@ pub struct SegmentDescriptor {
 }
 
 // What the descriptor call answers.
-#[derive(Drop)]
+#[derive(Clone, Copy)]
 pub enum Described {
     Refused(Refusal),
     Descriptor(SegmentDescriptor),
 }
 
 // Parent-before-child policy of an ordering query.
-#[derive(Drop)]
+#[derive(Clone, Copy)]
 pub enum OrderingMode {
     // every ancestor must have been owned and completed here
     Strict,
@@ -72,7 +72,7 @@ pub enum OrderingMode {
 
 // One assigned segment, with the range that the assignment gives it.
 #[repr(C)]
-#[derive(Drop)]
+#[derive(Clone, Copy)]
 pub struct Assigned {
     pub id: u64,
     pub start: u32,
@@ -81,7 +81,7 @@ pub struct Assigned {
 
 // A text that may be absent.
 #[repr(C)]
-#[derive(Drop)]
+#[derive(Clone, Copy)]
 pub struct Name {
     pub present: bool,
     pub text: u64,
@@ -89,7 +89,7 @@ pub struct Name {
 
 // `DagWatchSession` of dag_watch.rs: what is known of one watched topic, but for the held tables, which are lent.
 #[repr(C)]
-#[derive(Drop)]
+#[derive(Clone, Copy)]
 pub struct Session {
     pub id: u64,
     pub held: bool,
@@ -104,7 +104,7 @@ pub struct Session {
 
 // An update of the broker, but for its tables, which are lent. `code` is the signed 32-bit error code, as its 32 bits.
 #[repr(C)]
-#[derive(Drop)]
+#[derive(Clone, Copy)]
 pub struct Update {
     pub session: u64,
     pub layout: bool,
@@ -119,7 +119,7 @@ pub struct Update {
 }
 
 // What an update answers, and the session after it.
-#[derive(Drop)]
+#[derive(Clone, Copy)]
 pub struct Outcome {
     pub session: Session,
     pub answer: Updated,

@@ -2,14 +2,14 @@
 ghost use Rattle.std.specs.Prelude.{◌≡◌};
 ghost use Rattle.types.specs.State.{state_of};
 
-#[derive(Drop)]
+#[derive(Clone, Copy)]
 pub enum SegmentState {
     Active,
     Sealed,
 }
 
 // What a state word says.
-#[derive(Drop)]
+#[derive(Clone, Copy)]
 pub enum StateRead {
     Known(SegmentState),
     // 13, without the id: the word

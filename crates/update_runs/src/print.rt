@@ -1,82 +1,83 @@
 // Answers and sessions as text.
 use answers::{DagChangeReason, DagDelta, Refusal, Updated};
 use shown::{text, word};
+use std::io;
 use types::records::{Name, Session};
 
-fn refusal(r: Refusal) {
-    text(b" R");
-    shown::refusal(r);
+fn refusal(rt: &impl Print, r: Refusal) -> io::Result<()> {
+    text(rt, b" R")?;
+    shown::refusal(rt, r)
 }
 
-fn reason(r: DagChangeReason) {
+fn reason(rt: &impl Print, r: DagChangeReason) -> io::Result<()> {
     match r {
-        DagChangeReason::Split => text(b" S"),
-        DagChangeReason::Merge => text(b" M"),
-        DagChangeReason::SegmentRemoved => text(b" R"),
-        DagChangeReason::Unknown => text(b" U"),
+        DagChangeReason::Split => text(rt, b" S"),
+        DagChangeReason::Merge => text(rt, b" M"),
+        DagChangeReason::SegmentRemoved => text(rt, b" R"),
+        DagChangeReason::Unknown => text(rt, b" U"),
     }
 }
 
 // Epoch, the lengths of the four lists, reason, handover.
-fn delta(d: DagDelta) {
-    text(b" A");
-    word(d.epoch);
-    word(d.added as u64);
-    word(d.removed as u64);
-    word(d.splits as u64);
-    word(d.merges as u64);
+fn delta(rt: &impl Print, d: DagDelta) -> io::Result<()> {
+    text(rt, b" A")?;
+    word(rt, d.epoch)?;
+    word(rt, d.added as u64)?;
+    word(rt, d.removed as u64)?;
+    word(rt, d.splits as u64)?;
+    word(rt, d.merges as u64)?;
     let why = d.reason;
-    reason(why);
-    word(d.handover);
+    reason(rt, why)?;
+    word(rt, d.handover)
 }
 
-pub fn answer(a: Updated) {
+pub fn answer(rt: &impl Print, a: Updated) -> io::Result<()> {
     match a {
-        Updated::Refused(r) => refusal(r),
-        Updated::Stale => text(b" T"),
-        Updated::Accepted(d) => delta(d),
+        Updated::Refused(r) => refusal(rt, r),
+        Updated::Stale => text(rt, b" T"),
+        Updated::Accepted(d) => delta(rt, d),
     }
 }
 
-fn name(n: Name) {
+fn name(rt: &impl Print, n: Name) -> io::Result<()> {
     if n.present {
-        word(n.text);
+        word(rt, n.text)
     } else {
-        text(b" -");
+        text(rt, b" -")
     }
 }
 
-fn holds(epoch: u64, rows: usize, edges: usize) {
-    text(b" holds epoch");
-    word(epoch);
-    text(b", rows");
-    word(rows as u64);
-    text(b", edges");
-    word(edges as u64);
+fn holds(rt: &impl Print, epoch: u64, rows: usize, edges: usize) -> io::Result<()> {
+    text(rt, b" holds epoch")?;
+    word(rt, epoch)?;
+    text(rt, b", rows")?;
+    word(rt, rows as u64)?;
+    text(rt, b", edges")?;
+    word(rt, edges as u64)
 }
 
-fn names(resolved: Name, controller: Name, secure: Name) {
-    text(b"; names");
-    name(resolved);
-    name(controller);
-    name(secure);
+fn names(rt: &impl Print, resolved: Name, controller: Name, secure: Name) -> io::Result<()> {
+    text(rt, b"; names")?;
+    name(rt, resolved)?;
+    name(rt, controller)?;
+    name(rt, secure)
 }
 
-pub fn session(s: Session) {
-    text(b"\n  session");
-    word(s.id);
+pub fn session(rt: &impl Print, s: Session) -> io::Result<()> {
+    text(rt, b"\n  session")?;
+    word(rt, s.id)?;
     if s.held {
-        holds(s.epoch, s.rows, s.edges);
+        holds(rt, s.epoch, s.rows, s.edges)?;
     } else {
-        text(b" holds none");
+        text(rt, b" holds none")?;
     }
-    names(s.resolved, s.controller, s.secure);
+    names(rt, s.resolved, s.controller, s.secure)
 }
 
-pub fn work(area: &[u64]) {
-    text(b"\n  work: changed");
-    word(shown::others(area, shown::SPARE));
-    text(b", not zero");
-    word(shown::others(area, 0));
-    text(b"\n");
+pub fn work(rt: &impl Print, area: &[u64]) -> io::Result<()> {
+    text(rt, b"\n  work: changed")?;
+    word(rt, shown::others(area, shown::SPARE))?;
+    text(rt, b", not zero")?;
+    word(rt, shown::others(area, 0))?;
+    text(rt, b"\n")
 }

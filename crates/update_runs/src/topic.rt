@@ -1,5 +1,6 @@
 // One watched topic, and one update of it: the call, and what it answers and leaves as text.
 use crate::print;
+use std::io;
 use types::limits::DagLimits;
 use types::records::{Outcome, Session, Update};
 
@@ -24,27 +25,34 @@ pub fn new_topic() -> Topic {
     }
 }
 
-fn show_areas(held: &[u64], links: &[u64], order: &[u64]) {
-    shown::area(b"\n  held", held);
-    shown::area(b"\n  edges", links);
-    shown::area(b"; order", order);
+fn show_areas(rt: &impl Print, held: &[u64], links: &[u64], order: &[u64]) -> io::Result<()> {
+    shown::area(rt, b"\n  held", held)?;
+    shown::area(rt, b"\n  edges", links)?;
+    shown::area(rt, b"; order", order)
 }
 
-fn show_lists(added: &[u64], removed: &[u64], splits: &[u64], merges: &[u64]) {
-    shown::area(b"\n  added", added);
-    shown::area(b"; removed", removed);
-    shown::area(b"; splits", splits);
-    shown::area(b"; merges", merges);
+fn show_lists(
+    rt: &impl Print,
+    added: &[u64],
+    removed: &[u64],
+    splits: &[u64],
+    merges: &[u64],
+) -> io::Result<()> {
+    shown::area(rt, b"\n  added", added)?;
+    shown::area(rt, b"; removed", removed)?;
+    shown::area(rt, b"; splits", splits)?;
+    shown::area(rt, b"; merges", merges)
 }
 
-fn show_outcome(o: Outcome) {
+fn show_outcome(rt: &impl Print, o: Outcome) -> io::Result<()> {
     let answer = o.answer;
-    print::answer(answer);
-    print::session(o.session);
+    print::answer(rt, answer)?;
+    print::session(rt, o.session)
 }
 
 // With lists and a work area that are new.
 fn told(
+    rt: &impl Print,
     session: Session,
     update: Update,
     limits: DagLimits,
@@ -55,7 +63,7 @@ fn told(
     links: &mut [u64],
     order: &mut [u64],
     added: &mut [u64],
-) -> Session {
+) -> io::Result<Session> {
     let mut work = [shown::SPARE; 512];
     let mut removed = [shown::SPARE; 3];
     let mut splits = [shown::SPARE; 8];
@@ -76,15 +84,16 @@ fn told(
         &mut splits,
         &mut merges,
     );
-    show_outcome(o);
-    show_areas(held, links, order);
-    show_lists(added, &removed, &splits, &merges);
-    print::work(&work);
-    o.session
+    show_outcome(rt, o)?;
+    show_areas(rt, held, links, order)?;
+    show_lists(rt, added, &removed, &splits, &merges)?;
+    print::work(rt, &work)?;
+    Ok(o.session)
 }
 
 // Under the caller's limits, with an added list of the caller's.
 pub fn step(
+    rt: &impl Print,
     topic: Topic,
     update: Update,
     limits: DagLimits,
@@ -92,11 +101,12 @@ pub fn step(
     edges: &[u64],
     places: &[u64],
     added: &mut [u64],
-) -> Topic {
+) -> io::Result<Topic> {
     let mut held = topic.held;
     let mut links = topic.links;
     let mut order = topic.order;
     let session = told(
+        rt,
         topic.session,
         update,
         limits,
@@ -107,21 +117,29 @@ pub fn step(
         &mut links,
         &mut order,
         added,
-    );
-    Topic {
+    )?;
+    Ok(Topic {
         session,
         held,
         links,
         order,
-    }
+    })
 }
 
 // Under the default limits, with lists of enough room and no placements.
-pub fn usual(label: &[u8], topic: Topic, update: Update, rows: &[u64], edges: &[u64]) -> Topic {
+pub fn usual(
+    rt: &impl Print,
+    label: &[u8],
+    topic: Topic,
+    update: Update,
+    rows: &[u64],
+    edges: &[u64],
+) -> io::Result<Topic> {
     let none = [0u64; 0];
     let mut added = [shown::SPARE; 3];
-    shown::text(label);
+    shown::text(rt, label)?;
     step(
+        rt,
         topic,
         update,
         DagLimits::DEFAULT,
@@ -133,13 +151,19 @@ pub fn usual(label: &[u8], topic: Topic, update: Update, rows: &[u64], edges: &[
 }
 
 // With segments that have no edges.
-pub fn alone(label: &[u8], topic: Topic, update: Update, rows: &[u64]) -> Topic {
+pub fn alone(
+    rt: &impl Print,
+    label: &[u8],
+    topic: Topic,
+    update: Update,
+    rows: &[u64],
+) -> io::Result<Topic> {
     let none = [0u64; 0];
-    usual(label, topic, update, rows, &none)
+    usual(rt, label, topic, update, rows, &none)
 }
 
 // With no tables.
-pub fn bare(label: &[u8], topic: Topic, update: Update) -> Topic {
+pub fn bare(rt: &impl Print, label: &[u8], topic: Topic, update: Update) -> io::Result<Topic> {
     let none = [0u64; 0];
-    alone(label, topic, update, &none)
+    alone(rt, label, topic, update, &none)
 }

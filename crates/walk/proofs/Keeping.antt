@@ -12,7 +12,6 @@ use lib.Dec.{eqb}
 use lib.ListN.{length, get_or, set, take, drop}
 use lib.Seq.{take-suc, take_all, take-set-le, get_or-drop}
 use Rattle.lists.specs.Lists.{has, ◌∈◌}
-use Rattle.lists.specs.Sets.{Ascending}
 use Rattle.lists.proofs.Cases.{lt-or-le}
 use Rattle.lists.proofs.SetLaws.{never, here, there, has-append, take-place}
 use Rattle.words.specs.Part.{part}

@@ -8,14 +8,14 @@ use mathlib.Core.Path.{◌≡◌, refl, sym, ap, ◌∙◌}
 use mathlib.Core.Bool.{Bool, true, false, cond, not, ◌&&◌, ◌||◌}
 use mathlib.Core.Logic.{◌⊎◌, inl, inr, ⊎_elim}
 use mathlib.Core.List.{List, [], ◌∷◌, ◌++◌, append-nil, append_assoc}
-use borrow.Author.Tests.{eq-eqb, ne_eqb, eqb-true, eqb-false}
+use borrow.Author.Tests.{ne_eqb, eqb-true, eqb-false}
 use lib.Dec.{eqb}
 use lib.ListN.{length, get_or, set, length-set, length-append}
 use lib.Seq.{get_or-set_same, get_or-set_other}
 use Rattle.lists.specs.Lists.{has, ◌∈◌, ◌∉◌}
 use Rattle.lists.proofs.Cases.{lt-or-le}
 use Rattle.lists.proofs.SortLaws.{true-or-false}
-use Rattle.lists.proofs.SetLaws.{never, here, there, in-cons, in_left, has-append}
+use Rattle.lists.proofs.SetLaws.{never, here, here_eq, there, in-cons, in_left, has-append}
 use Rattle.words.specs.Table.{where_is, Ascends}
 use Rattle.words.specs.declared.Found.{Found}
 use Rattle.words.specs.declared.Found.TheVariants.{At, Nothing}
@@ -241,7 +241,7 @@ module _ (n : ℕ) (table : List ℕ) (size : length table ≡ n) (up : Ascends 
               split x i = ⊎_elim (λ (z : x ∈ us). inl z) (λ (z : x ∉ us). inr (sym (has-append x us vs ∙ rw z refl) ∙ i)) (true-or-false (has x us))
 
               new : (x : ℕ) → (x ∈ us) ⊎ (x ∈ vs) → (p : ℕ) × (p ∈ (q ∷ ps)) × (where_is table p ≡ At x)
-              new x (inl i) = let r = a.fresh x i in (r.0, ⊎_elim (λ (z : r.0 ≡ q). rw z (here q ps)) (λ (z : r.0 ∈ []). never z) (in-cons r.0 q [] r.1), r.2)
+              new x (inl i) = let r = a.fresh x i in (r.0, ⊎_elim (λ (z : r.0 ≡ q). here_eq r.0 q ps z) (λ (z : r.0 ∈ []). never z) (in-cons r.0 q [] r.1), r.2)
               new x (inr i) = let r = b.fresh x i in (r.0, there r.0 q ps r.1, r.2)
 
               stay : (r : ℕ) → r ∈ (meet table q s).list → r ∈ (meet_all table ps (meet table q s)).list

@@ -2,15 +2,14 @@
 -- Assumes nothing.
 use native.Mathlib.Omega.{arith}
 use Prim.Native.Nat.{ℕ, ◌+◌, ◌-◌, ◌*◌, ◌<◌, ◌≤◌}
-use mathlib.Core.Path.{◌≡◌, refl, sym, ap, subst, ◌∙◌}
+use mathlib.Core.Path.{◌≡◌, sym, ap, subst, ◌∙◌}
 use mathlib.Core.List.{List}
-use lib.ListN.{length, get_or, take, drop}
-use Rattle.words.specs.Part.{part, put}
+use lib.ListN.{length, get_or, take}
+use Rattle.words.specs.Part.{part}
 use Rattle.words.specs.Table.{ids, Ascends}
 use Rattle.words.proofs.TableLaws.{length_ids, ids_at}
 use Rattle.words.proofs.PartLaws.{part_at}
-use Rattle.rules.specs.Tables.{held_width, parents_at}
-use Rattle.tabled.specs.Image.{Tabled}
+use Rattle.rules.specs.Tables.{held_width}
 use Rattle.tabled.proofs.Kept.{part-kept}
 use Rattle.hints.specs.Places.{Places}
 use Rattle.walk.specs.Met.{met, marks_in, list_in, bare_in, met_in, meet_all, Held, StartsIn}

@@ -17,7 +17,7 @@ use lib.ListN.{length, take}
 use Rattle.lists.specs.Lists.{has, ◌∈◌, ◌∉◌}
 use Rattle.lists.specs.Sets.{Ascending, add, add_all, keep, total}
 use Rattle.lists.proofs.SortLaws.{true-or-false}
-use Rattle.lists.proofs.SetLaws.{never, here, there, in-cons, in_all, has-append, length-add, asc-all, fits, in_take}
+use Rattle.lists.proofs.SetLaws.{never, here, here_eq, there, in-cons, in_all, has-append, length-add, asc-all, fits, in_take}
 use Rattle.walk.specs.Met.{Single}
 
 -- ---- membership
@@ -60,7 +60,7 @@ in_map f y (x ∷ l) h = go (in_map f y l) (in-cons y (f x) (map f l) h)
 
 pub map-in : (f : ℕ → ℕ) (x : ℕ) (l : List ℕ) → x ∈ l → f x ∈ map f l
 map-in f x [] h = never h
-map-in f x (y ∷ l) h = ⊎_elim (λ (e : x ≡ y). rw e (here (f y) (map f l))) (λ (k : x ∈ l). there (f x) (f y) (map f l) (map-in f x l k)) (in-cons x y l h)
+map-in f x (y ∷ l) h = ⊎_elim (λ (e : x ≡ y). here_eq (f x) (f y) (map f l) (ap f e)) (λ (k : x ∈ l). there (f x) (f y) (map f l) (map-in f x l k)) (in-cons x y l h)
 
 -- ---- one more at the end of an ascending list
 
@@ -148,7 +148,7 @@ in-up_to zero x h = absurd (omega arith)
 in-up_to (suc n) x h = go (in-up_to n x) (ℕ_discrete x n)
   where
     go : (x < n → x ∈ up_to n) → Dec (x ≡ n) → x ∈ (n ∷ up_to n)
-    go ih (yes e) = rw e (here n (up_to n))
+    go ih (yes e) = here_eq x n (up_to n) e
     go ih (no q) = there x n (up_to n) (ih (omega arith))
 
 pub no_more : (n : ℕ) (l : List ℕ) → Single l → ((x : ℕ) → x ∈ l → x < n) → length l ≤ n

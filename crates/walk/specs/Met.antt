@@ -3,7 +3,7 @@
 -- each id without a row that was read, of which the first is the id. A mark is 0 for a row that was not met, 1 for one that a parent
 -- reference reached; the row at which the walk starts has 2 until then, since it is met without being reached.
 -- Assumes nothing.
-use Rattle.std.specs.Prelude.{ℕ, zero, suc, ◌+◌, ◌*◌, ◌<◌, ◌≤◌, ◌≡◌, cond, ◌↔◌, ◌⊎◌, List, [], ◌∷◌, ◌++◌, eqb, length, get_or, set, drop}
+use Rattle.std.specs.Prelude.{ℕ, zero, suc, ◌*◌, ◌<◌, ◌≤◌, ◌≡◌, cond, ◌↔◌, ◌⊎◌, List, [], ◌∷◌, ◌++◌, eqb, length, get_or, set, drop}
 use Rattle.lists.specs.Lists.{◌∈◌, ◌∉◌}
 use Rattle.words.specs.Part.{part}
 use Rattle.words.specs.Table.{ids, where_is}

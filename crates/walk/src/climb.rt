@@ -20,7 +20,7 @@ pub fn prepare(rows: &[u64], n: usize, g: usize, w: &mut [u64])
 }
 
 // How many rows were met, how many ids without a row were read, and whether hints for the references stand in the work area.
-#[derive(Drop)]
+#[derive(Clone, Copy)]
 pub struct Tally {
     pub met: usize,
     pub bare: usize,
@@ -28,7 +28,7 @@ pub struct Tally {
 }
 
 // How many parent references a walk read, and how many of them to ids without a row.
-#[derive(Drop)]
+#[derive(Clone, Copy)]
 pub struct Walked {
     pub read: usize,
     pub bare: usize,

@@ -1,4 +1,6 @@
 // The ancestors of a row of held tables, each row met once, on any tables, with loops and parents without a row too.
+#![tactic(auto)]
+
 ghost use Rattle.std.specs.Prelude.{◌+◌, ◌*◌, ◌<◌, ◌≤◌, length};
 ghost use Rattle.tabled.specs.Image.{Tabled};
 ghost use Rattle.walk.specs.Kept.{Listed};
@@ -14,7 +16,7 @@ mod reached;
 pub mod starts;
 
 // How many parent references were read, and how many ancestors there are.
-#[derive(Drop)]
+#[derive(Clone, Copy)]
 pub struct Ancestry {
     pub read: usize,
     pub count: usize,

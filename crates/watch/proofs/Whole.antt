@@ -13,7 +13,6 @@ use Rattle.answers.specs.declared.Updated.TheVariants as U
 use Rattle.types.specs.declared.limits.DagLimits.{DagLimits}
 use Rattle.types.specs.declared.records.Session.{Session}
 use Rattle.types.specs.declared.records.Update.{Update}
-use Rattle.rules.specs.Model.{Segment}
 use Rattle.rules.specs.Tables.{row_width}
 use Rattle.rules.specs.Judge.{Tables, Areas, segments_in, filled}
 use Rattle.rules.specs.Update.{Changes, Went, refused_before, stale, judged, held_count, held_edge_count, address_rule, is_stale, replace_rule, went, held_before, updated_of, session_with, session_after, if_accepted, changed, past_update_room, update_work_after, update_after}

@@ -1,5 +1,7 @@
 // The update of a watch session, `DagWatchSession::handle_update` of dag_watch.rs over lent tables: 40, 41, 42, stale, then 1 to 35. The core takes the
 // session by value and hands it back with the answer; the two `handle` calls update it where it stands.
+#![tactic(auto)]
+
 ghost use Rattle.std.specs.Prelude.{◌≡◌};
 ghost use Rattle.rules.specs.Tables.{default_limits};
 ghost use Rattle.layout.specs.Lent.{tables_of, areas_of};

@@ -17,7 +17,7 @@ use native.Mathlib.Nat.{add-mul, one-mul, mul-le-mul_right, suc-mul, zero-mul, l
 use lib.ListN.{length, get_or, drop}
 use lib.Seq.{get_or-drop}
 use lib.Dec.{T, eqb, ltb}
-use borrow.Author.Tests.{eq-eqb, ne_eqb, lt-ltb, le-ltb}
+use borrow.Author.Tests.{eq-eqb, ne_eqb, le-ltb}
 use Rattle.lists.specs.Lists.{has}
 use Rattle.lists.proofs.Cases.{lt-or-le, eq-or-ne}
 use Rattle.words.specs.Table.{ids, where_from, where_is, Ascends, ascending}

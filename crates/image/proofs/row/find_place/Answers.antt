@@ -1,0 +1,36 @@
+-- `find_place` meets its contract: a search in a lent part, and the row number read from the same words of w.
+use Rattle.image.proofs.Found.{fits-key, fits-place, fits_word, lent-size, lent-up, found_word, found-told, nothing-told}
+use borrow.Author.Rules.{rules}
+use Rattle.image.proofs.row.find_place.Goals as goal
+
+-- old need slice-bounds-find-row-start
+-- part-find-row-start : tie.Need-slice-bounds-find-row-start
+-- part-find-row-start c = search rules
+
+-- old need slice-bounds-find-row-end
+-- part-find-row-end : tie.Need-slice-bounds-find-row-end
+-- part-find-row-end c = search rules
+
+pub find_row-found-requires : goal.find_row-found-requires
+find_row-found-requires c = record { width_nonzero = search rules; width_in_bounds = search lent-size; ascends = search lent-up }
+
+pub overflow_mul-result : goal.overflow_mul-result
+overflow_mul-result c = search fits-key
+
+pub overflow_add-result : goal.overflow_add-result
+overflow_add-result c = search fits-place
+
+pub overflow_add-result-in-At : goal.overflow_add-result-in-At
+overflow_add-result-in-At c = search (rules, fits_word)
+
+pub offset_bounds-w-b-in-At : goal.offset_bounds-w-b-in-At
+offset_bounds-w-b-in-At c = search (rules, found_word)
+
+pub bounds-w-b : goal.bounds-w-b
+bounds-w-b c = search (rules, found_word)
+
+pub returns-in-At : goal.returns-in-At
+returns-in-At c = search found-told
+
+pub returns-in-Nothing : goal.returns-in-Nothing
+returns-in-Nothing c = search nothing-told

@@ -1,0 +1,16 @@
+-- `write_site` meets its contract: by what was found, each way one call.
+use Rattle.image.proofs.Found.{k-room, k-fits, put-found, put-nothing}
+use borrow.Author.Rules.{rules}
+use Rattle.image.proofs.row.write_site.Goals as goal
+
+pub overflow_mul-k : goal.overflow_mul-k
+overflow_mul-k c = search k-fits
+
+pub copy_site-requires : goal.copy_site-requires
+copy_site-requires c = record { at_in_bounds = search rules; place_width_in_bounds = search k-room }
+
+pub returns-in-At : goal.returns-in-At
+returns-in-At c = search put-found
+
+pub returns-in-Nothing : goal.returns-in-Nothing
+returns-in-Nothing c = search put-nothing

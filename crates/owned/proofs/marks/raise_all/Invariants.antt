@@ -1,0 +1,15 @@
+-- `raise_all` meets its contract. The invariant: the marks are raised by the ids passed (`Raised`).
+use Prim.Native.Nat.{◌≤◌, ◌-◌}
+use mathlib.Core.Path.{◌≡◌}
+use lib.ListN.{length, take}
+use Rattle.words.specs.Part.{part}
+use Rattle.words.specs.Table.{Ascends}
+use Rattle.owned.specs.Marks.{Raised}
+use Rattle.owned.proofs.marks.raise_all.Given as goal
+
+abbrev pub invariant-loop-j : goal.invariant-loop-j
+invariant-loop-j l =
+    (l.j ≤ length l.list) × (length l.w ≡ length l.initial.w) × Ascends (part l.w l.b l.k) × Raised (take l.j l.list) l.from l.to l.b l.s l.k l.initial.w l.w
+
+abbrev pub decreases-loop-j : goal.decreases-loop-j
+decreases-loop-j l = length l.list - l.j

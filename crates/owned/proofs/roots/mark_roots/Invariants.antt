@@ -1,0 +1,14 @@
+-- `mark_roots` meets its contract. The invariant: the ids passed have their mark (`Marked`).
+use Prim.Native.Nat.{ℕ, ◌≤◌, ◌-◌}
+use mathlib.Core.Path.{◌≡◌}
+use lib.ListN.{length}
+use Rattle.lists.specs.Lists.{tick}
+use Rattle.owned.specs.Marks.{Marked, root_of}
+use Rattle.owned.proofs.roots.mark_roots.Given as goal
+
+abbrev pub invariant-loop-i : goal.invariant-loop-i
+invariant-loop-i l =
+    (l.i ≤ l.k) × (length l.w ≡ length l.initial.w) × Marked (λ (x : ℕ). tick (root_of l.rows l.h x)) l.b l.s l.i l.initial.w l.w
+
+abbrev pub decreases-loop-i : goal.decreases-loop-i
+decreases-loop-i l = l.k - l.i

@@ -1,0 +1,9 @@
+-- `paired::ids::push_lacking` meets its contract: an id that is held is left out, another is written at place k.
+use Rattle.paired.proofs.Listed.{skip_count, skip_is, push-count, push-is}
+use Rattle.paired.proofs.ids.push_lacking.Goals as goal
+
+pub returns-then-is_held : goal.returns-then-is_held
+returns-then-is_held c = record { value = search skip_count; out_after = search skip_is }
+
+pub returns : goal.returns
+returns c = record { value = search push-count; out_after = search push-is }

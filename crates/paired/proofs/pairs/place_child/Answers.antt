@@ -1,0 +1,13 @@
+-- `paired::pairs::place_child` meets its contract: a row that was held, or has not as many held parents as the kind asks for, makes no pair; else
+-- each of these parents makes one.
+use Rattle.paired.proofs.Placing.{child-held, child-unwanted, child-wanted}
+use Rattle.paired.proofs.pairs.place_child.Goals as goal
+
+pub returns-then-is_held : goal.returns-then-is_held
+returns-then-is_held c = search child-held
+
+pub returns-then-is_wanted : goal.returns-then-is_wanted
+returns-then-is_wanted c = search child-wanted
+
+pub returns : goal.returns
+returns c = search child-unwanted

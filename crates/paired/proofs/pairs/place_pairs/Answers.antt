@@ -1,0 +1,25 @@
+-- `paired::pairs::place_pairs` meets its contract: after i turns the pairs of the first i rows are placed (`Gathered`), and the image is as it was.
+use Rattle.paired.proofs.Gathered.{gathered-start, parents-before, pairs-room, counts-fit, from-fits, gathered_next, gathered-end, gathered-few}
+use borrow.Author.Rules.{rules}
+use Rattle.paired.proofs.pairs.place_pairs.Goals as goal
+
+pub loop-i-init : goal.loop-i-init
+loop-i-init c = (search rules, search gathered-start)
+
+pub place_child-k-requires-clause-count_bound : goal.place_child-k-requires-clause-count_bound
+place_child-k-requires-clause-count_bound c = search parents-before
+
+pub place_child-k-requires-clause-count_in_bounds : goal.place_child-k-requires-clause-count_in_bounds
+place_child-k-requires-clause-count_in_bounds c = search pairs-room
+
+pub overflow_add-from : goal.overflow_add-from
+overflow_add-from c = search counts-fit
+
+pub overflow_add-from-in-loop-i : goal.overflow_add-from-in-loop-i
+overflow_add-from-in-loop-i c = search from-fits
+
+pub loop-i-preserved : goal.loop-i-preserved
+loop-i-preserved c = (search rules, search gathered_next)
+
+pub returns : goal.returns
+returns c = record { placed = search gathered-end; upper_bound = search gathered-few }

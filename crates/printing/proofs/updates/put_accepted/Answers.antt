@@ -1,0 +1,19 @@
+-- `printing::updates::put_accepted` meets its contract: each need is arithmetic, a law that is imported, or what a callee promised.
+use mathlib.Core.List.{[], ◌∷◌}
+use Rattle.texts.proofs.Writing.{on}
+use Rattle.printing.proofs.LineLaws.{field}
+use Rattle.texts.specs.Decimal.{decimal}
+use Rattle.texts.specs.CommaList.{listed}
+use Rattle.printing.specs.Shown.{letter_of, splits_listed, merges_listed, shown_accepted}
+use Rattle.printing.proofs.updates.put_accepted.Goals as goal
+
+pub returns : goal.returns
+unfolding shown_accepted
+returns c =
+    let s = splits_listed c.args.d.splits c.args.splits.now ∷ merges_listed c.args.d.merges c.args.merges.now ∷ (letter_of c.args.d.reason ∷ []) ∷ decimal c.args.d.handover ∷ [] in
+    let r = listed c.args.d.removed c.args.removed.now ∷ s in
+    let p = listed c.args.d.added c.args.added.now ∷ r in
+    let o = listed c.args.rows c.args.order.now ∷ p in
+    on
+    c.put_byte-a.ensures
+    (field o (10 ∷ []) c.field_number-e.ensures (field p (10 ∷ []) c.field_list-o.ensures (field r (10 ∷ []) c.field_list-p.ensures (field s (10 ∷ []) c.field_list-q.ensures c.put_changes.ensures))))

@@ -1,0 +1,13 @@
+-- `has_bad_next` meets its contract. The invariant: some row is bad if one of those to come is.
+use Prim.Native.Nat.{◌-◌}
+use mathlib.Core.Path.{◌≡◌}
+use Rattle.rules.specs.Tables.{held_width}
+use Rattle.rules.specs.Shape.{any_bad}
+use Rattle.shape.specs.Next.{bad_next}
+use Rattle.shape.proofs.rows.has_bad_next.Given as goal
+
+abbrev pub invariant-loop-i : goal.invariant-loop-i
+invariant-loop-i l = any_bad bad_next held_width l.rows l.n 0 ≡ any_bad bad_next held_width l.rows (l.n - l.i) l.i
+
+abbrev pub decreases-loop-i : goal.decreases-loop-i
+decreases-loop-i l = l.n - l.i
