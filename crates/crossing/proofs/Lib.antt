@@ -1,4 +1,5 @@
 pub mod Capped
 pub mod Enough
 pub mod Numbers
+pub mod Updates
 pub mod Words

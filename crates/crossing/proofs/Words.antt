@@ -1,12 +1,18 @@
 -- Answers as structs of numbers, by the case that was met. Assumes nothing.
-use mathlib.Core.Path.{◌≡◌, refl}
+use Prim.Native.Nat.{ℕ}
+use mathlib.Core.Path.{◌≡◌, refl, sym, ap, ◌∙◌}
 use Rattle.answers.specs.declared.Refusal.{Refusal}
 use Rattle.answers.specs.declared.Judged.{Judged}
 use Rattle.answers.specs.declared.Judged.TheVariants.{Accepted, Refused}
-use Rattle.crossing.specs.Told.{no_refusal, refusal_of}
+use Rattle.answers.specs.declared.Eligibility.{Eligibility}
+use Rattle.crossing.specs.declared.answer.OrderingWords.{OrderingWords}
+use Rattle.crossing.specs.Told.{no_refusal, refusal_of, ordering_words}
 
 pub accepted-is : (j : Judged) → j ≡ Accepted → no_refusal ≡ refusal_of j
 accepted-is j e = rw e refl
 
 pub refused-is : (j : Judged) (r : Refusal) → j ≡ Refused r → r ≡ refusal_of j
 refused-is j r e = rw e refl
+
+pub words-as : (v : OrderingWords) (e k : Eligibility) (n : ℕ) → v ≡ ordering_words (record { eligibility = k; read = n }) → e ≡ k → v ≡ ordering_words (record { eligibility = e; read = n })
+words-as v e k n said is = said ∙ ap (λ (x : Eligibility). ordering_words (record { eligibility = x; read = n })) (sym is)

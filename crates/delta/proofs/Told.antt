@@ -1,9 +1,9 @@
 -- From what the parts answer, of the rows of the image at the front of the work area, to the delta of its segments.
 --     added-lacking     the ids of the added segments are those that the old table lacks
---     lent_rows, lent-widths     what the parts ask of the rows that they are lent
+--     lent_rows, lent-room, lent-widths     what the parts ask of the rows that they are lent
 --     told-added, told-removed, told-delta     what they say of the lists and of the delta
 -- Assumes nothing.
-use Prim.Native.Nat.{ℕ, ◌-◌, ◌*◌, ◌≤◌}
+use Prim.Native.Nat.{ℕ, ◌+◌, ◌-◌, ◌*◌, ◌≤◌}
 use native.Mathlib.Nat.{sub-zero}
 use native.Mathlib.Omega.{arith}
 use mathlib.Core.Path.{◌≡◌, refl, sym, ap, ◌∙◌}
@@ -50,6 +50,9 @@ lent_is w n = simp sub-zero
 module _ (w : List ℕ) (n e : ℕ) (image : Image w n e) where
   pub lent_rows : Rows (lent w n) n
   lent_rows = rw (lent_is w n) (record { room = omega (arith, image.tabled.size); up = image.tabled.up })
+
+  pub lent-room : n * held_width ≤ length (lent w n)
+  lent-room = lent_rows.room
 
   pub lent-widths : widths_active (image_segments w n e) ≤ 65536 → widths_active (bare (lent w n) n) ≤ 65536
   lent-widths h = rw (lent_is w n) (omega (arith, h, widths-any (image_rows w n) (image_edges w n e) [] n 0 0 0))
