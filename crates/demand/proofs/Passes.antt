@@ -25,7 +25,7 @@ use Rattle.rules.specs.Shape.{bad_flag, bad_hash, bad_head, bad_held_row, any_ba
 use Rattle.rules.specs.Judge.{Tables, Areas, segments_in, placements_in, filled}
 use Rattle.rules.proofs.Decode.{head-length, held-length}
 use Rattle.rules.proofs.Ascended.{length-by_id}
-use Rattle.rules.proofs.Accepts.{byId-up}
+use Rattle.rules.proofs.Accepts.{by_id-up}
 use Rattle.rules.proofs.HeldSegments.{area-segments, area-counts}
 use Rattle.rules.proofs.Taken.{times}
 use Rattle.shape.proofs.Good.{layout-counts}
@@ -192,7 +192,7 @@ module _ (limits : DagLimits) (t : Tables) (a : Areas) (good : bad_layout t.rows
       ∙ rows-good ps (by_id ss) held (drop (length (held_rows ss ps)) a.held) [] 0 refl refl narrow
 
   up : ((z : ℕ) → times z (ids_of ss) ≤ 1) → ascending (ids held held_width n) ≡ true
-  up once = ap ascending (sym (ids-segments held links n) ∙ ap ids_of held-are) ∙ ascending-is (ids_of (by_id ss)) (byId-up ss once)
+  up once = ap ascending (sym (ids-segments held links n) ∙ ap ids_of held-are) ∙ ascending-is (ids_of (by_id ss)) (by_id-up ss once)
 
   pub held-pass : ((z : ℕ) → times z (ids_of ss) ≤ 1) → bad_held held links n (length t.edges) ≡ false
   unfolding bad_held bad_held_rows wrong_counts

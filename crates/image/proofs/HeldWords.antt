@@ -1,6 +1,6 @@
 -- The words of all keys are those of the rule book (held-rows, held-edges), they are as many as the tables say (held-rows-size,
 -- held-edges-size), and both parts together are the image (rows-kept, image-written).
--- By the index as the list of segments in ascending order (byId-index), key by key. Assumes nothing.
+-- By the index as the list of segments in ascending order (by_id-index), key by key. Assumes nothing.
 use mathlib.Core.Path.{◌≡◌, refl, sym, ap, ◌∙◌}
 use mathlib.Core.List.{List, [], ◌∷◌, ◌++◌, map}
 use mathlib.Core.Logic.{inl, inr}
@@ -16,7 +16,7 @@ use Rattle.rules.specs.Model.{Segment, Placement, site_of, held_of}
 use Rattle.rules.specs.Tables.{row_width, held_width, head_at, parents_at, children_at, segments, edges_from, held_words, rows_of, edges_of, held_rows, held_edges}
 use Rattle.rules.proofs.Places.{start-room, length-stretch, join-stretch}
 use Rattle.indexes.specs.Index.{segment_index}
-use Rattle.indexes.proofs.Keys.{segment_of_key, byId-index, index_in, length-index}
+use Rattle.indexes.proofs.Keys.{segment_of_key, by_id-index, index_in, length-index}
 use Rattle.image.specs.Written.{key_rows, key_edges, Indexed, Ready}
 use Rattle.image.proofs.KeyWords.{indexed-kept}
 use Rattle.image.proofs.Rows.{rows-length}
@@ -45,11 +45,11 @@ module _ (table edges : List ℕ) (n : ℕ) (all : edges_from row_width table n 
 
   held-rows : key_rows table ps (segment_index table n) ≡ held_rows ss ps
   unfolding held_rows
-  held-rows = sym (ap (λ (t : List Segment). rows_of (map (held_of ps) t)) (byId-index table edges n) ∙ rows-of (segment_index table n) (λ x h. h))
+  held-rows = sym (ap (λ (t : List Segment). rows_of (map (held_of ps) t)) (by_id-index table edges n) ∙ rows-of (segment_index table n) (λ x h. h))
 
   held-edges : key_edges table edges (segment_index table n) ≡ held_edges ss ps
   unfolding held_edges
-  held-edges = sym (ap (λ (t : List Segment). edges_of (map (held_of ps) t)) (byId-index table edges n) ∙ edges-of table edges ps (segment_index table n))
+  held-edges = sym (ap (λ (t : List Segment). edges_of (map (held_of ps) t)) (by_id-index table edges n) ∙ edges-of table edges ps (segment_index table n))
 
   rows-size : length (key_rows table ps (segment_index table n)) ≡ n * held_width
   rows-size = rows-length table ps (segment_index table n) ∙ ap (λ (k : ℕ). k * held_width) (length-index table n)

@@ -27,7 +27,7 @@ use Rattle.tabled.specs.Image.{Image, image_rows, image_edges, image_segments}
 use Rattle.tabled.proofs.ByRow.{ids-segments}
 use Rattle.words.specs.Twins.{NoTwins}
 use Rattle.indexes.specs.Index.{segment_index}
-use Rattle.indexes.proofs.Keys.{segment_of_key, byId-index, index_in, length-index}
+use Rattle.indexes.proofs.Keys.{segment_of_key, by_id-index, index_in, length-index}
 use Rattle.indexes.proofs.Once.{index-up}
 use Rattle.image.proofs.HeldWords.{held-rows-size, held-edges-size}
 
@@ -47,7 +47,7 @@ module _ (table edges : List ℕ) (n : ℕ) where
       λ j. id j ∷ ids-of l (λ y m. h y (inr m)) j
 
   sorted-ids : ids_of (by_id (segments table edges n)) ≡ map key-id (segment_index table n)
-  sorted-ids = ap ids_of (byId-index table edges n) ∙ ids-of (segment_index table n) (λ x h. h)
+  sorted-ids = ap ids_of (by_id-index table edges n) ∙ ids-of (segment_index table n) (λ x h. h)
 
   ids_up : NoTwins table row_width n → Ascends (ids_of (by_id (segments table edges n)))
   ids_up once = rw sorted-ids up

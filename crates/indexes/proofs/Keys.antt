@@ -1,6 +1,6 @@
 -- The indexes of the input tables as the abstract lists that they stand for.
 --     rows-keyed, places-keyed            the keys of both tables are `Keyed`
---     byId-index, sorted-placements       an index stands for the list in ascending order: ids may repeat, the sort by id is stable
+--     by_id-index, sorted-placements       an index stands for the list in ascending order: ids may repeat, the sort by id is stable
 --     index_in, index_at, place-index-in, place-index-at     what a key of an index says
 -- By the keys written out by row number (keys-at, place-keys-at) and the laws of keyed keys. Assumes nothing.
 use Prim.Native.Nat.{ℕ, zero, suc, ◌+◌, ◌*◌, ◌<◌}
@@ -120,9 +120,9 @@ module _ (rows : List ℕ) (n : ℕ) where
   pub index_at : (p : ℕ) → p < n → KeyOf rows row_width n (at (segment_index rows n) p) × Starts rows (at (segment_index rows n) p)
   index_at p h = index_in (at (segment_index rows n) p) (at_in row0 (segment_index rows n) p (omega (arith, length-index)))
 
-pub byId-index : (rows edges : List ℕ) (n : ℕ) → by_id (segments rows edges n) ≡ map (segment_of_key rows edges) (segment_index rows n)
+pub by_id-index : (rows edges : List ℕ) (n : ℕ) → by_id (segments rows edges n) ≡ map (segment_of_key rows edges) (segment_index rows n)
 unfolding segment_index
-byId-index rows edges n =
+by_id-index rows edges n =
     ap by_id (segments-keys rows edges n 0 0)
     ∙ by_row rows row_width n (segment_keys rows n 0 0) (rows-keyed rows n) (segment_of_key rows edges) id_le (λ x y. refl)
 

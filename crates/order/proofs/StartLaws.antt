@@ -12,11 +12,11 @@ use lib.ListN.{length, get_or, take, drop, set, replicate, get_or-replicate, len
 use Rattle.tree.specs.Tree.{Low, Tree}
 use Rattle.order.specs.Graph.{st, start, tab, parents}
 use Rattle.order.proofs.RunLaws.{st-eq, slots_length}
-use Rattle.order.proofs.TabLaws.{getD-tab, tab-same, tab-low, tab-more}
+use Rattle.order.proofs.TabLaws.{get_or-tab, tab-same, tab-low, tab-more}
 
 module _ (n : ℕ) (off edges deg dep tree : List ℕ) (ed : deg ≡ tab (λ i. length (parents off edges i)) n) (ez : dep ≡ replicate n 0) (er : drop n tree ≡ tab (λ i. cond (eqb (get_or deg i 0) 0) i n) n) where
   pub begun : st n deg dep tree ≡ start n off edges
-  begun = st-eq ed ez (er ∙ tab-same (λ i. cond (eqb (get_or deg i 0) 0) i n) (λ i. cond (eqb (length (parents off edges i)) 0) i n) n (λ i h. rw (ed, getD-tab (λ i. length (parents off edges i)) n i h) refl))
+  begun = st-eq ed ez (er ∙ tab-same (λ i. cond (eqb (get_or deg i 0) 0) i n) (λ i. cond (eqb (length (parents off edges i)) 0) i n) n (λ i h. rw (ed, get_or-tab (λ i. length (parents off edges i)) n i h) refl))
 
   pub begun-slots : Low n (drop n tree)
   begun-slots = rw er (tab-low (λ i. cond (eqb (get_or deg i 0) 0) i n) n n (λ i h. low i h (eqb (get_or deg i 0) 0)))

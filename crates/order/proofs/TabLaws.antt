@@ -1,5 +1,5 @@
 -- A list made of a function:
---     length-tab, getD-tab, tab-low, tab-same     what stands in it
+--     length-tab, get_or-tab, tab-low, tab-same     what stands in it
 --     tab-none, tab-more, tab-all     a loop that stores f i at i, one a turn
 -- Assumes nothing.
 use mathlib.Core.Path.{◌≡◌, refl, sym, ◌∙◌}
@@ -17,10 +17,10 @@ unfolding tab
 length-tab f zero = refl
 length-tab f (suc n) = omega (arith, length-append (tab f n) (f n ∷ []), length-tab f n)
 
-pub getD-tab : (f : ℕ → ℕ) (n i : ℕ) → i < n → get_or (tab f n) i 0 ≡ f i
+pub get_or-tab : (f : ℕ → ℕ) (n i : ℕ) → i < n → get_or (tab f n) i 0 ≡ f i
 unfolding tab
-getD-tab f zero i h = absurd (omega arith)
-getD-tab f (suc n) i h = go (getD-tab f n i) (ℕ_discrete i n)
+get_or-tab f zero i h = absurd (omega arith)
+get_or-tab f (suc n) i h = go (get_or-tab f n i) (ℕ_discrete i n)
   where
     go : (i < n → get_or (tab f n) i 0 ≡ f i) → Dec (i ≡ n) → get_or (tab f n ++ (f n ∷ [])) i 0 ≡ f i
     go ih (yes e) = rw e (get_or_at (tab f n) (f n) [] 0 n (length-tab f n))
@@ -43,7 +43,7 @@ pub tab-low : (f : ℕ → ℕ) (n b : ℕ) → ((i : ℕ) → i < n → f i ≤
 tab-low f n b h i = go (dec_lt i n)
   where
     go : Dec (i < n) → get_or (tab f n) i 0 ≤ b
-    go (yes q) = rw (getD-tab f n i q) (h i q)
+    go (yes q) = rw (get_or-tab f n i q) (h i q)
     go (no q) = rw (get_or-eq_default (tab f n) 0 {n = i} (omega (arith, length-tab f n))) zero-le
 
 pub tab-none : (f : ℕ → ℕ) (l : List ℕ) → take 0 l ≡ tab f 0

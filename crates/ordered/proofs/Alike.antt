@@ -24,7 +24,7 @@ use Rattle.tree.specs.Tree.{least}
 use Rattle.words.specs.Table.{Ascends}
 use Rattle.lists.proofs.Cases.{lt-or-le}
 use Rattle.order.proofs.RunLaws.{slice-nodes}
-use Rattle.order.proofs.TabLaws.{getD-tab, length-tab}
+use Rattle.order.proofs.TabLaws.{get_or-tab, length-tab}
 use Rattle.ordered.proofs.NodeLaws.{IdAt, bare, blank, depth-at, first-none, first_some, idle, taken_at, touched-at}
 use Rattle.tree.proofs.TreeLaws.{Hit, least-hit, least-le}
 use Rattle.rules.specs.Order as R
@@ -199,7 +199,7 @@ module _ (n : ℕ) (S : List Segment) (off edges : List ℕ) (size : length S �
         degs = length-tab (λ i. length (parents off edges i)) n;
         deps = length-replicate n 0;
         rdys = length-tab (λ i. cond (eqb (length (parents off edges i)) 0) i n) n;
-        slots = λ i h. rw (getD-tab (λ i. cond (eqb (length (parents off edges i)) 0) i n) n i h) (slot i (eqb (length (parents off edges i)) 0));
+        slots = λ i h. rw (get_or-tab (λ i. cond (eqb (length (parents off edges i)) 0) i n) n i h) (slot i (eqb (length (parents off edges i)) 0));
         at = at;
       }
     where
@@ -216,8 +216,8 @@ module _ (n : ℕ) (S : List Segment) (off edges : List ℕ) (size : length S �
           rw (
             get_or-map node_of S i bare,
             get_or-map id_of S i bare,
-            getD-tab (λ i. length (parents off edges i)) n i h,
-            getD-tab (λ i. cond (eqb (length (parents off edges i)) 0) i n) n i h,
+            get_or-tab (λ i. length (parents off edges i)) n i h,
+            get_or-tab (λ i. cond (eqb (length (parents off edges i)) 0) i n) n i h,
             get_or-replicate {A = ℕ} n i 0 0 h,
             elders i h,
           )

@@ -37,10 +37,10 @@ ends_last s from i sep l e = omega (arith, none)
     none : up_to sep (drop i s) ≡ 0
     none = rw (drop_of_length-le s l) refl
 
-pub upTo-le : (sep : ℕ) (s : List ℕ) → up_to sep s ≤ length s
+pub up_to-le : (sep : ℕ) (s : List ℕ) → up_to sep s ≤ length s
 unfolding up_to
-upTo-le sep [] = omega arith
-upTo-le sep (b ∷ s) = go (upTo-le sep s) (eqb b sep)
+up_to-le sep [] = omega arith
+up_to-le sep (b ∷ s) = go (up_to-le sep s) (eqb b sep)
   where
     go : up_to sep s ≤ length s → (t : Bool) → cond t 0 (suc (up_to sep s)) ≤ suc (length s)
     go ih true = omega arith
@@ -91,7 +91,7 @@ module _ (s : List ℕ) (from to sep : ℕ) (e : to ≡ from + up_to sep (drop f
       split-first sep (drop from s) ∙ ap (λ (n : ℕ). take n (drop from s) ∷ later sep (drop from s)) n
 
   pub to-fits : from ≤ length s → to ≤ length s
-  to-fits l = omega (arith, upTo-le sep (drop from s), length-drop from s)
+  to-fits l = omega (arith, up_to-le sep (drop from s), length-drop from s)
 
   pub more_parts : to < length s → split sep (drop from s) ≡ take (to - from) (drop from s) ∷ split sep (drop (to + 1) s)
   more_parts l =

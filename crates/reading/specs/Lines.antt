@@ -167,12 +167,12 @@ with_id NoNumber rest = plain Unreadable
 
 -- O: each list has a room of its own
 unfoldable pub query_line : ℕ → ℕ → List ℕ → Read
-query_line historyRoom completedRoom line =
+query_line history_room completed_room line =
     counted line 5
     (with_id (number_of (field line 1)) λ id.
     with_mode (mode_of (letter_of (field line 2))) λ mode.
-    with_list (list_of historyRoom (field line 3)) λ history.
-    with_list (list_of completedRoom (field line 4)) λ completed.
+    with_list (list_of history_room (field line 3)) λ history.
+    with_list (list_of completed_room (field line 4)) λ completed.
     record { line = Query id mode (length history) (length completed); edges = []; history = history; completed = completed })
     (plain Unreadable)
 

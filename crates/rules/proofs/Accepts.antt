@@ -143,11 +143,11 @@ insert-up s (t ∷ l) h a = go (insert-up s l) (id_le s t) refl (eq-or-ne t.head
         let out : s.head.id ∉ ids_of l = sym (ap (λ (k : Bool). k || has s.head.id (ids_of l)) (ne_eqb t.head.id s.head.id q)) ∙ h in
         ((λ y k. ⊎_elim (λ (w : y ≡ s.head.id). omega arith) (λ (w : y ∈ ids_of l). a.0 y w) (in_insert y s l k)), ih out a.1)
 
-pub byId-up : (ss : List Segment) → ((z : ℕ) → times z (ids_of ss) ≤ 1) → Ascending (ids_of (by_id ss))
-byId-up [] h = tt
-byId-up (s ∷ ss) h =
+pub by_id-up : (ss : List Segment) → ((z : ℕ) → times z (ids_of ss) ≤ 1) → Ascending (ids_of (by_id ss))
+by_id-up [] h = tt
+by_id-up (s ∷ ss) h =
     let apart : s.head.id ∉ ids_of ss = ⊎_elim (λ (k : s.head.id ∈ ids_of ss). absurd (omega (arith, h s.head.id, in-times s.head.id (ids_of ss) k, ap tick (eq-eqb s.head.id s.head.id refl)))) (λ k. k) (true-or-false (has s.head.id (ids_of ss))) in
-    insert-up s (by_id ss) (has-by_id s.head.id ss ∙ apart) (byId-up ss (λ z. omega (arith, h z)))
+    insert-up s (by_id ss) (has-by_id s.head.id ss ∙ apart) (by_id-up ss (λ z. omega (arith, h z)))
 
 -- ---- the edges
 
@@ -244,7 +244,7 @@ some_same a b e = cc
 pub reciprocal : (layout limit : ℕ) (ss : List Segment) → rows_rule layout limit ss ≡ Accepted → edges_rule ss ≡ Accepted → Reciprocal (by_id ss)
 unfolding edges_rule
 reciprocal layout limit ss rows edges =
-    record { up = byId-up ss (λ z. rows-once layout limit z ss rows); agree = λ x z s t f g. agree x z s t f g }
+    record { up = by_id-up ss (λ z. rows-once layout limit z ss rows); agree = λ x z s t f g. agree x z s t f g }
   where
     linked : links_from (by_id ss) (by_id ss) ≡ Accepted
     linked = links-by_id ss (by_id ss) ∙ edges

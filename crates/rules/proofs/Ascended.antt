@@ -183,31 +183,31 @@ active-by_id ss = coverage-same (active_of (by_id ss)) (active_of ss) (sorted-by
 
 -- ---- whole rules: an ascending list is its own `by_id`
 
-pub byId-twice : (ss : List Segment) → by_id (by_id ss) ≡ by_id ss
-byId-twice ss = sorted-twice id_le (λ s t e. lt-le s.head.id t.head.id (leb-false s.head.id t.head.id e)) ss
+pub by_id-twice : (ss : List Segment) → by_id (by_id ss) ≡ by_id ss
+by_id-twice ss = sorted-twice id_le (λ s t e. lt-le s.head.id t.head.id (leb-false s.head.id t.head.id e)) ss
   where
     lt-le : (a b : ℕ) → b < a → leb b a ≡ true
     lt-le a b h = le-leb b a (omega arith)
 
 pub edges-by_id : (ss : List Segment) → edges_rule (by_id ss) ≡ edges_rule ss
 unfolding edges_rule
-edges-by_id ss = rw (byId-twice ss) (links-by_id ss (by_id ss))
+edges-by_id ss = rw (by_id-twice ss) (links-by_id ss (by_id ss))
 
 pub transitions-by_id : (ss : List Segment) → transitions_rule (by_id ss) ≡ transitions_rule ss
 unfolding transitions_rule
-transitions-by_id ss = rw (byId-twice ss, forks-by_id ss (by_id ss), joins-by_id ss (by_id ss)) refl
+transitions-by_id ss = rw (by_id-twice ss, forks-by_id ss (by_id ss), joins-by_id ss (by_id ss)) refl
 
 pub length-by_id : (ss : List Segment) → length (by_id ss) ≡ length ss
 length-by_id ss = sum-sorted id_le length (λ (s : Segment). 1) (λ s l. omega arith) ss
 
-pub orderOf-by_id : (limit : ℕ) (ss : List Segment) → order_of limit (by_id ss) ≡ order_of limit ss
+pub order_of-by_id : (limit : ℕ) (ss : List Segment) → order_of limit (by_id ss) ≡ order_of limit ss
 unfolding order_of
-orderOf-by_id limit ss = rw (byId-twice ss, length-by_id ss) refl
+order_of-by_id limit ss = rw (by_id-twice ss, length-by_id ss) refl
 
 -- 28 to 35 do not see the order of the rows
 pub graph-by_id : (limits : DagLimits) (ss : List Segment) → graph_rule limits (by_id ss) ≡ graph_rule limits ss
 unfolding graph_rule order_rule
-graph-by_id limits ss = rw (orderOf-by_id limits.depth ss, transitions-by_id ss, active-by_id ss) refl
+graph-by_id limits ss = rw (order_of-by_id limits.depth ss, transitions-by_id ss, active-by_id ss) refl
 
 -- ---- parents, as the ordering query reads them
 
