@@ -1,4 +1,4 @@
-/* The calls of threshpetal.h, compiled by the compiler of this processor, so that they are called in its own way. */
+/* The calls of threshpetal.h, compiled for Arm, so that they are called in its own way. */
 #include "carry.h"
 
 threshpetal_refusal threshpetal_judge(uint64_t epoch, uint64_t size, threshpetal_limits limits, JUDGE) {
