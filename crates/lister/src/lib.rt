@@ -2,6 +2,8 @@
 // a line says is `reading`'s, where it may stand `drafts`', what an answer looks like `printing`'s.
 #![tactic(auto)]
 
+ghost use Rattle.std.specs.Prelude.{◌≡◌, ◌≤◌, OnErr};
+
 use drafts::places::Place;
 use reading::kept::Kept;
 use reading::lines::Line;
@@ -70,12 +72,9 @@ fn next_line(l: Listing) -> Listing {
     next
 }
 
-fn add_segment(
-    rt: &impl Print,
-    l: Listing,
-    rows: &mut [u64],
-    s: SegmentInfo,
-) -> io::Result<Listing> {
+fn add_segment(rt: &impl Print, l: Listing, rows: &mut [u64], s: SegmentInfo) -> io::Result<Listing>
+    ensures { OnErr result (rows.new ≡ rows.old) }
+{
     if !tables::add_segment(rows, l.rows, s) {
         return stop(rt, l);
     }
@@ -85,12 +84,9 @@ fn add_segment(
     Ok(next)
 }
 
-fn add_placement(
-    rt: &impl Print,
-    l: Listing,
-    places: &mut [u64],
-    b: Broker,
-) -> io::Result<Listing> {
+fn add_placement(rt: &impl Print, l: Listing, places: &mut [u64], b: Broker) -> io::Result<Listing>
+    ensures { OnErr result (places.new ≡ places.old) }
+{
     if !tables::add_placement(places, l.places, b) {
         return stop(rt, l);
     }
@@ -149,7 +145,10 @@ fn act(
     links: &mut [u64],
     history: &[u64],
     completed: &[u64],
-) -> io::Result<Listing> {
+) -> io::Result<Listing>
+    ensures rows_on_err { OnErr result (rows.new ≡ rows.old) }
+    ensures places_on_err { OnErr result (places.new ≡ places.old) }
+{
     match line {
         Line::Session(id) => Ok(begin_session(l, id)),
         Line::Update(_) => Ok(begin_update(l)),
@@ -199,7 +198,10 @@ fn take_line(
     places: &mut [u64],
     held: &mut [u64],
     links: &mut [u64],
-) -> io::Result<Listing> {
+) -> io::Result<Listing>
+    ensures rows_on_err { OnErr result (rows.new ≡ rows.old) }
+    ensures places_on_err { OnErr result (places.new ≡ places.old) }
+{
     let mut history = [0u64; 64];
     let mut completed = [0u64; 64];
     let said = tables::read_behind(line, edges, l.edges, &mut history, &mut completed);
@@ -224,7 +226,10 @@ fn end_line(
     places: &mut [u64],
     held: &mut [u64],
     links: &mut [u64],
-) -> io::Result<Listing> {
+) -> io::Result<Listing>
+    ensures rows_on_err { OnErr result (rows.new ≡ rows.old) }
+    ensures places_on_err { OnErr result (places.new ≡ places.old) }
+{
     let next = next_line(l);
     if l.long {
         return stop(rt, next);
@@ -255,7 +260,8 @@ fn keep(l: Listing, b: u8, line: &mut [u8]) -> Listing {
     next
 }
 
-// One byte more of the input.
+// One byte more of the input. The only error is that of a write that failed. It leaves the line and the update's rows and placements as they
+// were; the edge words behind those of the rows before may be those of the line, and held rows and edges are what the update left.
 pub fn take_byte(
     rt: &impl Print,
     l: Listing,
@@ -266,7 +272,11 @@ pub fn take_byte(
     places: &mut [u64],
     held: &mut [u64],
     links: &mut [u64],
-) -> io::Result<Listing> {
+) -> io::Result<Listing>
+    ensures line_on_err { OnErr result (line.new ≡ line.old) }
+    ensures rows_on_err { OnErr result (rows.new ≡ rows.old) }
+    ensures places_on_err { OnErr result (places.new ≡ places.old) }
+{
     if l.stopped {
         return Ok(l);
     }
@@ -276,7 +286,7 @@ pub fn take_byte(
     Ok(keep(l, b, line))
 }
 
-// The end of the input. A last line without its newline is read.
+// The end of the input. A last line without its newline is read. An error is and leaves what one of `take_byte` does.
 pub fn finish(
     rt: &impl Print,
     l: Listing,
@@ -286,7 +296,10 @@ pub fn finish(
     places: &mut [u64],
     held: &mut [u64],
     links: &mut [u64],
-) -> io::Result<()> {
+) -> io::Result<()>
+    ensures rows_on_err { OnErr result (rows.new ≡ rows.old) }
+    ensures places_on_err { OnErr result (places.new ≡ places.old) }
+{
     if l.stopped {
         return Ok(());
     }
@@ -297,8 +310,10 @@ pub fn finish(
 }
 
 // How many bytes are in the buffer: the n that were there while place i is among them, else those that the next read brings. None: the input
-// has ended.
-pub fn refill(input: &mut impl Read, buffer: &mut [u8], i: usize, n: usize) -> io::Result<usize> {
+// has ended. The only error is that of this read, which leaves no byte of the buffer to be counted on.
+pub fn refill(input: &mut impl Read, buffer: &mut [u8], i: usize, n: usize) -> io::Result<usize>
+    ensures { OnErr result (n ≤ i) }
+{
     if i < n {
         return Ok(n);
     }

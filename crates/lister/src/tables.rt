@@ -1,12 +1,14 @@
 // The tables of the update that is open: rows are added behind their filled words while there is room. Nothing links a count to its table but
 // these functions, so each test stands where the words are.
-ghost use Rattle.std.specs.Prelude.{◌≡◌, length};
+ghost use Rattle.std.specs.Prelude.{◌≡◌, IsFalse, length};
 
 use reading::lines::Line;
 use types::records::{Broker, SegmentInfo};
 
-// The 11 words of a segment row; false where there is no room for them.
-pub fn add_segment(rows: &mut [u64], at: usize, s: SegmentInfo) -> bool {
+// The 11 words of a segment row; false, and nothing written, where there is no room for them.
+pub fn add_segment(rows: &mut [u64], at: usize, s: SegmentInfo) -> bool
+    ensures { IsFalse result → rows.new ≡ rows.old }
+{
     if rows.len() < at {
         return false;
     }
@@ -30,8 +32,10 @@ pub fn add_segment(rows: &mut [u64], at: usize, s: SegmentInfo) -> bool {
     true
 }
 
-// The 4 words of a placement row.
-pub fn add_placement(places: &mut [u64], at: usize, b: Broker) -> bool {
+// The 4 words of a placement row; false, and nothing written, where there is no room for them.
+pub fn add_placement(places: &mut [u64], at: usize, b: Broker) -> bool
+    ensures { IsFalse result → places.new ≡ places.old }
+{
     if places.len() < at {
         return false;
     }
