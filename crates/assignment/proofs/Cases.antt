@@ -2,12 +2,11 @@
 use Prim.Native.Nat.{ℕ}
 use mathlib.Core.Path.{◌≡◌, refl}
 use mathlib.Core.List.{List, [], ◌∷◌, ◌++◌}
-use Rattle.answers.specs.declared.Judged.{Judged}
-use Rattle.answers.specs.declared.Judged.TheVariants.{Accepted}
-use Rattle.answers.specs.Answer.{refuse0, refuse1, refuse2}
+use Rattle.answers.specs.Answer.{Judged, Accepted, Refused}
 use Rattle.types.specs.declared.records.Assigned.{Assigned}
 use Rattle.rules.specs.Shape.{bad_head, bad_held_row, bad_held_rows}
 use Rattle.rules.specs.Assignment.{assigned_found, assigned_rule, each_assigned, assignment_rule}
+use Rattle.answers.specs.declared.Refusal.TheVariants.{UnknownAssigned, EpochMismatch, BadTable, RangeMismatch, LegacySegment}
 
 infix 6 ◌gives◌
 record Case : Type 0 where
@@ -40,26 +39,26 @@ abbrev cases : List Case
 cases =
     -- no layout is held: epoch 0 and no records; epoch 0 and a record; epoch 5
     (assignment_rule [] 0 0 0 [] gives Accepted)
-    ∷ (assignment_rule [] 0 0 0 (assigned 2 0 9 ∷ []) gives refuse1 61 2)
-    ∷ (assignment_rule [] 0 0 5 (assigned 2 0 9 ∷ []) gives refuse2 60 5 0)
+    ∷ (assignment_rule [] 0 0 0 (assigned 2 0 9 ∷ []) gives Refused (UnknownAssigned 2))
+    ∷ (assignment_rule [] 0 0 5 (assigned 2 0 9 ∷ []) gives Refused (EpochMismatch 5 0))
     -- the epoch of an older and of a newer assignment
-    ∷ (assignment_rule held 4 5 4 [] gives refuse2 60 4 5)
-    ∷ (assignment_rule held 4 5 6 [] gives refuse2 60 6 5)
+    ∷ (assignment_rule held 4 5 4 [] gives Refused (EpochMismatch 4 5))
+    ∷ (assignment_rule held 4 5 6 [] gives Refused (EpochMismatch 6 5))
     -- more rows than the area has, and 1 comes before 60
-    ∷ (assignment_rule held 5 5 4 [] gives refuse0 1)
+    ∷ (assignment_rule held 5 5 4 [] gives Refused BadTable)
     -- all but the legacy segment; an unread legacy text and an empty one are none
     ∷ (five (assigned 6 20 29 ∷ assigned 2 0 9 ∷ assigned 4 10 19 ∷ []) gives Accepted)
     -- unknown; another start, another end; legacy
-    ∷ (five (assigned 3 0 9 ∷ []) gives refuse1 61 3)
-    ∷ (five (assigned 4 11 19 ∷ []) gives refuse1 62 4)
-    ∷ (five (assigned 4 10 20 ∷ []) gives refuse1 62 4)
-    ∷ (five (assigned 8 30 39 ∷ []) gives refuse1 63 8)
+    ∷ (five (assigned 3 0 9 ∷ []) gives Refused (UnknownAssigned 3))
+    ∷ (five (assigned 4 11 19 ∷ []) gives Refused (RangeMismatch 4))
+    ∷ (five (assigned 4 10 20 ∷ []) gives Refused (RangeMismatch 4))
+    ∷ (five (assigned 8 30 39 ∷ []) gives Refused (LegacySegment 8))
     -- a legacy segment with another range
-    ∷ (five (assigned 8 30 40 ∷ []) gives refuse1 62 8)
+    ∷ (five (assigned 8 30 40 ∷ []) gives Refused (RangeMismatch 8))
     -- records are judged in list order, the last one too
-    ∷ (five (assigned 8 30 39 ∷ assigned 3 0 9 ∷ []) gives refuse1 63 8)
-    ∷ (five (assigned 3 0 9 ∷ assigned 8 30 39 ∷ []) gives refuse1 61 3)
-    ∷ (five (assigned 2 0 9 ∷ assigned 6 20 29 ∷ assigned 8 30 39 ∷ []) gives refuse1 63 8)
+    ∷ (five (assigned 8 30 39 ∷ assigned 3 0 9 ∷ []) gives Refused (LegacySegment 8))
+    ∷ (five (assigned 3 0 9 ∷ assigned 8 30 39 ∷ []) gives Refused (UnknownAssigned 3))
+    ∷ (five (assigned 2 0 9 ∷ assigned 6 20 29 ∷ assigned 8 30 39 ∷ []) gives Refused (LegacySegment 8))
     ∷ []
 
 pub right : Right cases

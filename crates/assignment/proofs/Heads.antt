@@ -7,9 +7,7 @@ use mathlib.Core.Option.{Option, none, some}
 use mathlib.Core.List.{List, []}
 use lib.ListN.{get_or}
 use lib.Dec.{eqb}
-use Rattle.words.specs.Table.{ids, where_is}
-use Rattle.words.specs.declared.Found.{Found}
-use Rattle.words.specs.declared.Found.TheVariants.{At, Nothing}
+use Rattle.words.specs.Table.{ids, where_is, Found, At, Nothing}
 use Rattle.rules.specs.Model.{Head, Segment, head_of, lookup}
 use Rattle.rules.specs.Tables.{held_width, head_at, heads, parents_at, children_at, segment_at, segments_from}
 use Rattle.tabled.specs.Image.{segment_found}

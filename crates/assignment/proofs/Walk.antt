@@ -12,9 +12,7 @@ use lib.Dec.{eqb, ltb}
 use lib.ListN.{length, get_or, drop, drop_of_length-le}
 use lib.Seq.{drop-cons}
 use borrow.Author.Tests.{le-ltb, ltb-true, ltb-false}
-use Rattle.answers.specs.declared.Judged.{Judged}
-use Rattle.answers.specs.declared.Judged.TheVariants.{Accepted, Refused}
-use Rattle.answers.specs.Answer.{when, ◌then◌, refuse0, refuse2}
+use Rattle.answers.specs.Answer.{when, ◌then◌, Judged, Accepted, Refused}
 use Rattle.types.specs.declared.records.Assigned.{Assigned}
 use Rattle.rules.specs.Model.{Head}
 use Rattle.rules.specs.Tables.{heads, held_width}
@@ -22,6 +20,7 @@ use Rattle.rules.specs.Shape.{bad_held_rows}
 use Rattle.rules.specs.Assignment.{assigned_rule, each_assigned, assignment_rule}
 use Rattle.assignment.specs.declared.Turn.{Turn}
 use Rattle.assignment.specs.Turns.{before_list, turn_to}
+use Rattle.answers.specs.declared.Refusal.TheVariants.{BadTable, EpochMismatch}
 
 by-test : {P : Type 0} (b : Bool) → (b ≡ true → P) → (b ≡ false → P) → P
 by-test true t f = t refl
@@ -53,7 +52,7 @@ passed : (rows : List ℕ) (n dag epoch len : ℕ) → (turn_to 0 len (before_li
 unfolding before_list turn_to
 passed rows n dag epoch len = by (bad_held_rows rows n)
   where
-    by : (t : Bool) → (turn_to 0 len (when t (refuse0 1) then when (not (eqb epoch dag)) (refuse2 60 epoch dag))).next < len → t ≡ false
+    by : (t : Bool) → (turn_to 0 len (when t (Refused BadTable) then when (not (eqb epoch dag)) (Refused (EpochMismatch epoch dag)))).next < len → t ≡ false
     by true h = absurd (omega arith)
     by false h = refl
 
@@ -67,8 +66,8 @@ module _ (rows : List ℕ) (n dag epoch : ℕ) (xs : List Assigned) where
   unfolding before_list assignment_rule
   before-then = by (bad_held_rows rows n) (not (eqb epoch dag))
     where
-      by : (s t : Bool) → (when s (refuse0 1) then when t (refuse2 60 epoch dag)) then each_assigned (held rows n) xs
-          ≡ when s (refuse0 1) then when t (refuse2 60 epoch dag) then each_assigned (held rows n) xs
+      by : (s t : Bool) → (when s (Refused BadTable) then when t (Refused (EpochMismatch epoch dag))) then each_assigned (held rows n) xs
+          ≡ when s (Refused BadTable) then when t (Refused (EpochMismatch epoch dag)) then each_assigned (held rows n) xs
       by true t = refl
       by false true = refl
       by false false = refl

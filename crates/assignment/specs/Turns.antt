@@ -1,16 +1,15 @@
 -- The walk over an assignment's list, turn by turn. Assumes nothing.
 use Rattle.std.specs.Prelude.{ℕ, not, List, eqb}
-use Rattle.answers.specs.declared.Judged.{Judged}
-use Rattle.answers.specs.declared.Judged.TheVariants.{Accepted, Refused}
-use Rattle.answers.specs.Answer.{when, ◌then◌, refuse0, refuse2}
+use Rattle.answers.specs.Answer.{when, ◌then◌, Judged, Accepted, Refused}
 use Rattle.rules.specs.Shape.{bad_held_rows}
 use Rattle.assignment.specs.declared.Turn.{Turn}
+use Rattle.answers.specs.declared.Refusal.TheVariants.{BadTable, EpochMismatch}
 
 -- what comes before the list: 1, 60
 unfoldable pub before_list : List ℕ → ℕ → ℕ → ℕ → Judged
 before_list rows n dag epoch =
-    when (bad_held_rows rows n) (refuse0 1) then
-    when (not (eqb epoch dag)) (refuse2 60 epoch dag)
+    when (bad_held_rows rows n) (Refused BadTable) then
+    when (not (eqb epoch dag)) (Refused (EpochMismatch epoch dag))
 
 -- a refusal ends the walk: the next record stands past the list
 unfoldable pub turn_to : ℕ → ℕ → Judged → Turn

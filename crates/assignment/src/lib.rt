@@ -3,22 +3,21 @@
 
 ghost use Rattle.std.specs.Prelude.{◌≡◌, false, not, ◌||◌, ◌+◌, ◌*◌, ◌<◌, ◌≤◌, eqb, length};
 ghost use Rattle.std.proofs.Math.Option.{some};
-ghost use Rattle.answers.specs.Answer.{when, refuse2};
+ghost use Rattle.answers.specs.Answer.{when, Refused};
 ghost use Rattle.words.specs.Table.{ids, Ascends};
 ghost use Rattle.rules.specs.Tables.{optional, head_at, heads, held_width};
 ghost use Rattle.rules.specs.Shape.{bad_held_rows};
 ghost use Rattle.rules.specs.Assignment.{is_legacy, assigned_found, assigned_rule, assignment_rule};
 ghost use Rattle.assignment.specs.Turns.{turn_to, before_list};
 
-use answers::Judged;
+use answers::Refusal;
 use types::records::Assigned;
-use words::Found;
 
 // Where the walk over the list stands: the next record, which is past the last one where the walk has ended, and the answer so far.
 #[derive(Clone, Copy)]
 pub struct Turn {
     pub next: usize,
-    pub answer: Judged,
+    pub answer: Result<(), Refusal>,
 }
 
 // The row says another range than the assignment.
@@ -41,60 +40,63 @@ fn is_legacy(flag: u64, text: u64) -> bool
 }
 
 // 62, 63, by that row of n.
-fn judge_found(rows: &[u64], n: usize, row: usize, a: Assigned) -> Judged
+fn judge_found(rows: &[u64], n: usize, row: usize, a: Assigned) -> Result<(), Refusal>
     requires held_width_in_bounds { n * held_width ≤ length rows.now }
     requires row_lt_n { row < n }
     ensures { result ≡ assigned_found a (some (head_at rows.now (row * held_width))) }
 {
     let w = row * rules::HELD;
     if has_other_range(rows[w + 1], rows[w + 2], a) {
-        return answers::refuse(62, a.id, 0, 0, 0);
+        return Err(Refusal::RangeMismatch { id: a.id });
     }
     if is_legacy(rows[w + 7], rows[w + 8]) {
-        return answers::refuse(63, a.id, 0, 0, 0);
+        return Err(Refusal::LegacySegment { id: a.id });
     }
-    Judged::Accepted
+    Ok(())
 }
 
 // 61, 62, 63, by the row with the record's id.
-fn judge_record(rows: &[u64], n: usize, a: Assigned) -> Judged
+fn judge_record(rows: &[u64], n: usize, a: Assigned) -> Result<(), Refusal>
     requires held_width_in_bounds { n * held_width ≤ length rows.now }
     requires ascends { Ascends (ids rows.now held_width n) }
     ensures { result ≡ assigned_rule (heads held_width rows.now n 0) a }
 {
     match words::find_row(rows, rules::HELD, n, a.id) {
-        Found::At(row) => judge_found(rows, n, row, a),
-        Found::Nothing => answers::refuse(61, a.id, 0, 0, 0),
+        Some(row) => judge_found(rows, n, row, a),
+        None => Err(Refusal::UnknownAssigned { id: a.id }),
     }
 }
 
 // 60.
-fn judge_epoch(dag: u64, epoch: u64) -> Judged
-    ensures { result ≡ when (not (eqb epoch dag)) (refuse2 60 epoch dag) }
+fn judge_epoch(dag: u64, epoch: u64) -> Result<(), Refusal>
+    ensures { result ≡ when (not (eqb epoch dag)) (Refused (Refusal.EpochMismatch epoch dag)) }
 {
     if epoch != dag {
-        return answers::refuse(60, epoch, dag, 0, 0);
+        return Err(Refusal::EpochMismatch {
+            assignment: epoch,
+            dag,
+        });
     }
-    Judged::Accepted
+    Ok(())
 }
 
 // 1, 60.
-fn judge_before(rows: &[u64], n: usize, dag: u64, epoch: u64) -> Judged
+fn judge_before(rows: &[u64], n: usize, dag: u64, epoch: u64) -> Result<(), Refusal>
     ensures { result ≡ before_list rows.now n dag epoch }
 {
     if shape::tables::is_bad_held_rows(rows, n) {
-        return answers::refuse(1, 0, 0, 0, 0);
+        return Err(Refusal::BadTable);
     }
     judge_epoch(dag, epoch)
 }
 
 // On to the record `next`, or, with a refusal, to the end of a list of `len` records.
-fn turn_to(next: usize, len: usize, answer: Judged) -> Turn
+fn turn_to(next: usize, len: usize, answer: Result<(), Refusal>) -> Turn
     ensures { result ≡ turn_to next len answer }
 {
     match answer {
-        Judged::Accepted => Turn { next, answer },
-        Judged::Refused(_) => Turn { next: len, answer },
+        Ok(()) => Turn { next, answer },
+        Err(_) => Turn { next: len, answer },
     }
 }
 
@@ -120,7 +122,7 @@ pub fn validate_assignment(
     n: usize,
     dag: u64,
     epoch: u64,
-) -> Judged
+) -> Result<(), Refusal>
     ensures { result ≡ assignment_rule rows.now n dag epoch list.now }
 {
     let mut t = first_turn(list.len(), rows, n, dag, epoch);

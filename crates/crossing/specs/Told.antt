@@ -1,23 +1,21 @@
 -- Each answer that is an enum, told as a struct of numbers that crosses to C.
 -- Assumes nothing.
 use Rattle.std.specs.Prelude.{ℕ}
-use Rattle.answers.specs.Answer.{refusal_by, eligibility_number, eligibility_values}
-use Rattle.answers.specs.declared.Refusal.{Refusal}
-use Rattle.answers.specs.declared.Judged.{Judged}
-use Rattle.answers.specs.declared.Judged.TheVariants as J
+use Rattle.answers.specs.Answer.{words_by, words_of, eligibility_number, eligibility_values, Judged, Accepted, Refused}
+use Rattle.answers.specs.declared.RefusalWords.{RefusalWords}
 use Rattle.answers.specs.declared.Eligibility.{Eligibility}
 use Rattle.answers.specs.declared.Eligibility.TheVariants as E
 use Rattle.answers.specs.declared.Ordering.{Ordering}
 use Rattle.crossing.specs.declared.answer.OrderingWords.{OrderingWords}
 
 -- nothing is refused
-abbrev pub no_refusal : Refusal
+abbrev pub no_refusal : RefusalWords
 no_refusal = record { number = 0; a = 0; b = 0; c = 0; d = 0 }
 
 -- "A refusal: its number in document 01 and up to four values"; 0 and zeros where accepted
-abbrev pub refusal_of : Judged → Refusal
-refusal_of J.Accepted = no_refusal
-refusal_of (J.Refused r) = r
+abbrev pub refusal_of : Judged → RefusalWords
+refusal_of Accepted = no_refusal
+refusal_of (Refused r) = words_of r
 
 -- 0 refused, 1 blocked, 2 eligible, 3 broker-managed
 abbrev pub outcome_of : Eligibility → ℕ
@@ -28,9 +26,9 @@ outcome_of E.Eligible = 2
 outcome_of (E.BrokerManaged m) = 3
 
 -- 51 carries the segment; its list stands in the first ordering list
-abbrev pub bar_of : Eligibility → Refusal
-bar_of (E.Refused r) = r
-bar_of (E.Unprovable id n) = refusal_by (eligibility_number (E.Unprovable id n)) (eligibility_values (E.Unprovable id n))
+abbrev pub bar_of : Eligibility → RefusalWords
+bar_of (E.Refused r) = words_of r
+bar_of (E.Unprovable id n) = words_by (eligibility_number (E.Unprovable id n)) (eligibility_values (E.Unprovable id n))
 bar_of (E.Blocked n m) = no_refusal
 bar_of E.Eligible = no_refusal
 bar_of (E.BrokerManaged m) = no_refusal

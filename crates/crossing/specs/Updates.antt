@@ -1,7 +1,8 @@
 -- The answer of an update as a struct of numbers that crosses to C.
 -- Assumes nothing.
 use Rattle.std.specs.Prelude.{ℕ}
-use Rattle.answers.specs.declared.Refusal.{Refusal}
+use Rattle.answers.specs.Answer.{words_of}
+use Rattle.answers.specs.declared.RefusalWords.{RefusalWords}
 use Rattle.answers.specs.declared.DagChangeReason.{DagChangeReason}
 use Rattle.answers.specs.declared.DagChangeReason.TheVariants.{Split, Merge, SegmentRemoved, Unknown}
 use Rattle.answers.specs.declared.Updated.{Updated}
@@ -17,12 +18,12 @@ reason_number SegmentRemoved = 2
 reason_number Unknown = 3
 
 -- 0 refused, 1 stale, 2 accepted
-abbrev pub unchanged_words : ℕ → Refusal → UpdatedWords
+abbrev pub unchanged_words : ℕ → RefusalWords → UpdatedWords
 unchanged_words outcome refusal =
     record { outcome = outcome; refusal = refusal; epoch = 0; added = 0; removed = 0; splits = 0; merges = 0; reason = 0; handover = 0 }
 
 abbrev pub updated_words : Updated → UpdatedWords
-updated_words (U.Refused r) = unchanged_words 0 r
+updated_words (U.Refused r) = unchanged_words 0 (words_of r)
 updated_words U.Stale = unchanged_words 1 no_refusal
 updated_words (U.Accepted d) =
     record {

@@ -2,7 +2,7 @@
 ghost use Rattle.std.specs.Prelude.{◌≡◌};
 ghost use Rattle.crossing.specs.Told.{refusal_of, ordering_words};
 
-use answers::{Eligibility, Judged, Ordering, Refusal};
+use answers::{Eligibility, Ordering, Refusal, RefusalWords};
 
 // What an ordering query answers. `outcome`: 0 refused, 1 blocked, 2 eligible, 3 broker-managed; `first`, `second`: how many ids the two
 // lists hold at their front, 51's among them; `read`: parent references read.
@@ -10,14 +10,14 @@ use answers::{Eligibility, Judged, Ordering, Refusal};
 #[derive(Clone, Copy)]
 pub struct OrderingWords {
     pub outcome: u64,
-    pub refusal: Refusal,
+    pub refusal: RefusalWords,
     pub first: usize,
     pub second: usize,
     pub read: u64,
 }
 
 // Nothing is refused.
-pub const NONE: Refusal = Refusal {
+pub const NONE: RefusalWords = RefusalWords {
     number: 0,
     a: 0,
     b: 0,
@@ -26,16 +26,22 @@ pub const NONE: Refusal = Refusal {
 };
 
 // Number 0 where accepted.
-pub fn refusal_of(judged: Judged) -> Refusal
+pub fn refusal_of(judged: Result<(), Refusal>) -> RefusalWords
     ensures { result ≡ refusal_of judged }
 {
     match judged {
-        Judged::Accepted => NONE,
-        Judged::Refused(r) => r,
+        Ok(()) => NONE,
+        Err(r) => r.into(),
     }
 }
 
-fn told(outcome: u64, refusal: Refusal, first: usize, second: usize, read: u64) -> OrderingWords
+fn told(
+    outcome: u64,
+    refusal: RefusalWords,
+    first: usize,
+    second: usize,
+    read: u64,
+) -> OrderingWords
     ensures { result ≡ record { outcome = outcome; refusal = refusal; first = first; second = second; read = read } }
 {
     OrderingWords {
@@ -53,9 +59,9 @@ pub fn ordering_words(o: Ordering) -> OrderingWords
 {
     let eligibility = o.eligibility;
     match eligibility {
-        Eligibility::Refused(r) => told(0, r, 0, 0, o.read),
+        Eligibility::Refused(r) => told(0, r.into(), 0, 0, o.read),
         Eligibility::Unprovable(id, n) => {
-            let refusal = Refusal {
+            let refusal = RefusalWords {
                 number: 51,
                 a: id,
                 b: 0,

@@ -10,7 +10,6 @@ use mathlib.Core.List.{List, [], ◌∷◌}
 use lib.Dec.{eqb}
 use Rattle.lists.specs.Lists.{has}
 use Rattle.lists.proofs.SetLaws.{keep_same}
-use Rattle.answers.specs.declared.Judged.TheVariants.{Accepted}
 use Rattle.rules.specs.Model.{Segment, ids_of, by_id}
 use Rattle.rules.specs.Tiling.{widths, range_of, active_of, coverage_rule}
 use Rattle.rules.specs.Delta.{added_of, removed_of, split_pairs, merge_pairs, widths_active, handover_of, delta_of}
@@ -19,6 +18,7 @@ use Rattle.rules.proofs.Ascended.{has-by_id}
 use Rattle.rules.proofs.Covered.{covered-widths}
 use Rattle.paired.specs.Pairs.{splits_from, merges_from}
 use Rattle.delta.specs.Changed.{removed_from, delta_from, changed_from}
+use Rattle.answers.specs.Answer.{Accepted}
 
 removed-ruled : (u : List ℕ) (ss : List Segment) → removed_from u (by_id ss) ≡ removed_of u ss
 unfolding removed_from removed_of

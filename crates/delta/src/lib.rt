@@ -100,7 +100,7 @@ pub fn write_delta(
     requires image { Image w.old n e }
     requires e_bound { n * held_width + e ≤ at }
     requires e_in_bounds { at + 3 * e ≤ length w.old }
-    requires e_bound_2 { widths_active (image_segments w.old n e) ≤ 65536 }
+    requires widths_fit { widths_active (image_segments w.old n e) ≤ 65536 }
     requires rows { Rows old.now h }
     requires n_in_bounds { n ≤ length added.old }
     requires h_in_bounds { h ≤ length removed.old }

@@ -7,10 +7,9 @@ use mathlib.Core.Bool.{Bool, true, false}
 use mathlib.Core.List.{List}
 use lib.ListN.{length}
 use Rattle.answers.specs.declared.DagDelta.{DagDelta}
-use Rattle.answers.specs.declared.Judged.{Judged}
-use Rattle.answers.specs.declared.Judged.TheVariants as J
+use Rattle.answers.specs.Answer as J
 use Rattle.answers.specs.declared.Updated.TheVariants as U
-use Rattle.answers.specs.Answer.{when, ◌then◌, refuse0}
+use Rattle.answers.specs.Answer.{when, ◌then◌, Judged, Refused}
 use Rattle.answers.proofs.Judging.{or_left}
 use Rattle.types.specs.declared.limits.DagLimits.{DagLimits}
 use Rattle.types.specs.declared.records.Session.{Session}
@@ -27,6 +26,7 @@ use Rattle.answers.proofs.Judging.{then-both, when-not}
 use Rattle.rules.proofs.Accepts.{rows-once, layout-passes, layout-accepted}
 use Rattle.demand.specs.Demand.{HeldTables, held_in, Left, by_judge, by_update}
 use Rattle.demand.proofs.Passes.{held-are, held-pass}
+use Rattle.answers.specs.declared.Refusal.TheVariants.{BadTable, NoRoom}
 
 -- what the ordering call needs of held tables for demand 3
 pub record Sound (T : HeldTables) : Type 0 where
@@ -46,10 +46,10 @@ module _ (epoch size : ℕ) (limits : DagLimits) (t : Tables) (a : Areas) (good 
 
 -- ---- past 1 and 2
 
-past_two : (one two : Bool) (j : Judged) → (when one (refuse0 1) then when two (refuse0 2) then j) ≡ J.Accepted → (one ≡ false) × (j ≡ J.Accepted)
+past_two : (one two : Bool) (j : Judged) → (when one (Refused BadTable) then when two (Refused NoRoom) then j) ≡ J.Accepted → (one ≡ false) × (j ≡ J.Accepted)
 past_two one two j e =
-    let a = then-both (when one (refuse0 1)) (when two (refuse0 2) then j) e in
-    (when-not one _ a.0, (then-both (when two (refuse0 2)) j a.1).1)
+    let a = then-both (when one (Refused BadTable)) (when two (Refused NoRoom) then j) e in
+    (when-not one _ a.0, (then-both (when two (Refused NoRoom)) j a.1).1)
 
 judge-sound : (epoch size : ℕ) (limits : DagLimits) (t : Tables) (work : ℕ) (a : Areas) → judgement epoch size limits t work a ≡ J.Accepted
     → Sound (held_in (filled limits t a) (length t.rows / row_width) (length t.edges))

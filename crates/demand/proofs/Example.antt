@@ -5,7 +5,6 @@ use mathlib.Core.List.{[], ◌∷◌, ◌++◌}
 use lib.ListN.{replicate}
 use Rattle.lists.specs.Sort.{le3}
 use Rattle.lists.specs.Sets.{add, add_all, keep, total}
-use Rattle.answers.specs.declared.Judged.TheVariants as J
 use Rattle.answers.specs.declared.Eligibility.TheVariants as E
 use Rattle.types.specs.declared.limits.DagLimits.{DagLimits}
 use Rattle.types.specs.declared.records.OrderingMode.TheVariants.{Strict, BrokerManaged}
@@ -22,6 +21,7 @@ use Rattle.rules.specs.Ancestors.{parents_of, created_of, references, grow, clos
 use Rattle.rules.specs.Ordering.{Lent, pruned, remote, incomplete, ordering, query_rule, query, ordering_of}
 use Rattle.demand.specs.Demand.{HeldTables, held_in, Left, by_judge, Room, asked, MayRead, BlockedBy, named_in, remote_in, count_in, Ends}
 use Rattle.demand.proofs.DemandThree.{demand-three}
+use Rattle.answers.specs.Answer.{Accepted}
 
 abbrev pub usual : DagLimits
 usual = record { segments = 4096; edges = 16384; depth = 256; size = 1048576 }
@@ -45,7 +45,7 @@ lent = record { work = 224; first = replicate 5 88; second = replicate 5 88 }
 abbrev pub example : HeldTables
 example = held_in (filled usual layout areas) 3 4
 
-accepted : judgement 3 150 usual layout 224 areas ≡ J.Accepted
+accepted : judgement 3 150 usual layout 224 areas ≡ Accepted
 unfolding le3 bad_head bad_place wrong_counts bad_table bad_layout no_room_to_judge size_rule places_from placements_rule range_rule state_rule descriptor_rule active_rule sealed_rule state_lifecycle lifecycle_rule items_from list_rule head_rule lists_rule row_rule edge_count_rule counted_rule rows_from rows_rule dangling_from dangling_rule epoch_rule parent_found parent_known parent_rule child_found child_known child_rule parents_rule children_rule links_rule links_from edges_rule first_ready taken depth_of touched visit order_from order_of ordered_rule order_rule misfit walk_end walk_from walked tiles ranges_of tiling_rule all_single one_merged split_rule fork_rule forks_from join_rule joins_from transitions_rule active_of walked_rule coverage_rule graph_rule layout_rule judgement
 accepted = refl
 

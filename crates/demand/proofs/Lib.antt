@@ -3,3 +3,4 @@ pub mod Acceptance
 pub mod DemandThree
 pub mod Example
 pub mod Unchanged
+pub mod Numbers

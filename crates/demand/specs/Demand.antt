@@ -8,7 +8,6 @@ use Rattle.std.specs.Prelude.{ℕ, suc, ◌+◌, ◌/◌, ◌<◌, ◌≡◌, �
 use Rattle.lists.specs.Lists.{has, front, ◌∈◌, ◌∉◌}
 use Rattle.lists.specs.Sets.{Ascending}
 use Rattle.answers.specs.declared.DagDelta.{DagDelta}
-use Rattle.answers.specs.declared.Judged.TheVariants as J
 use Rattle.answers.specs.declared.Updated.TheVariants as U
 use Rattle.answers.specs.declared.Eligibility.TheVariants as E
 use Rattle.types.specs.declared.limits.DagLimits.{DagLimits}
@@ -22,6 +21,7 @@ use Rattle.rules.specs.Update.{Changes, held_count, held_edge_count, update_afte
 use Rattle.rules.specs.Ancestors.{Ancestor}
 use Rattle.rules.specs.Ordering.{Lent, Asked, query, ordering_of, first_after, second_after, permits_flow}
 use Rattle.rules.specs.Reading.{Grows, uncompleted}
+use Rattle.answers.specs.Answer.{Accepted}
 
 -- ---- "Take an accepted layout"
 
@@ -38,7 +38,7 @@ held_in a h g = record { rows = a.held; edges = a.links; h = h; g = g }
 -- what a call leaves that accepted a layout
 pub data Left : HeldTables → Type 0 where
   -- the judge
-  by_judge : (epoch size : ℕ) (limits : DagLimits) (t : Tables) (work : ℕ) (a : Areas) → judgement epoch size limits t work a ≡ J.Accepted
+  by_judge : (epoch size : ℕ) (limits : DagLimits) (t : Tables) (work : ℕ) (a : Areas) → judgement epoch size limits t work a ≡ Accepted
       → Left (held_in (filled limits t a) (length t.rows / row_width) (length t.edges))
   -- an update, with the counts of the session after it
   by_update : (s : Session) (u : Update) (limits : DagLimits) (t : Tables) (work : List ℕ) (a : Areas) (c : Changes) (d : DagDelta)

@@ -14,14 +14,10 @@ use mir.Syntax.{w64}
 use lib.ListN.{length, get_or, drop, drop_of_length-le}
 use lib.Seq.{drop-cons}
 use Rattle.lists.proofs.Cases.{one_left}
-use Rattle.words.specs.Table.{ids, where_is}
-use Rattle.words.specs.declared.Found.{Found}
-use Rattle.words.specs.declared.Found.TheVariants.{At, Nothing}
+use Rattle.words.specs.Table.{ids, where_is, Found, At, Nothing}
 use Rattle.words.proofs.TableLaws as Rows
 use Rattle.answers.specs.declared.Refusal.{Refusal}
-use Rattle.answers.specs.declared.Judged.{Judged}
-use Rattle.answers.specs.declared.Judged.TheVariants.{Accepted, Refused}
-use Rattle.answers.specs.Answer.{refuse2}
+use Rattle.answers.specs.Answer.{Judged, Accepted, Refused}
 use Rattle.rules.specs.Model.{Segment, lookup}
 use Rattle.rules.specs.Tables.{held_width, parents_at, children_at, start_of, segments_from, held_segments}
 use Rattle.rules.specs.Edges.{parent_found, parent_known, parent_rule, child_found, child_known, child_rule, parents_rule, children_rule, links_rule, links_from}
@@ -30,6 +26,7 @@ use Rattle.tabled.specs.Image.{Tabled, segment_in, segment_found}
 use Rattle.tabled.proofs.ByRow.{lookup-found}
 use Rattle.lookups.specs.Sides.{side}
 use Rattle.edges.specs.Links.{Tells, id_at, parent_at, parent_where, child_at, child_where, edge_where, each, row_links, rows_links}
+use Rattle.answers.specs.declared.Refusal.TheVariants.{DanglingParent, DanglingChild}
 
 -- ---- one edge: what was found
 
@@ -41,7 +38,7 @@ module _ (table pairs : List ℕ) (n i x : ℕ) (f : Found) (said : f ≡ where_
   unfolding parent_where
   parent-at r told e = rw (← said, told, e)
 
-  pub parent-nowhere : f ≡ Nothing → v ≡ refuse2 24 (id_at table i) x → v ≡ parent_where table pairs i x (where_is (ids table held_width n) x)
+  pub parent-nowhere : f ≡ Nothing → v ≡ Refused (DanglingParent (id_at table i) x) → v ≡ parent_where table pairs i x (where_is (ids table held_width n) x)
   unfolding parent_where
   parent-nowhere told e = rw (← said, told, e)
 
@@ -49,7 +46,7 @@ module _ (table pairs : List ℕ) (n i x : ℕ) (f : Found) (said : f ≡ where_
   unfolding child_where
   child-at r told e = rw (← said, told, e)
 
-  pub child-nowhere : f ≡ Nothing → v ≡ refuse2 27 (id_at table i) x → v ≡ child_where table pairs i x (where_is (ids table held_width n) x)
+  pub child-nowhere : f ≡ Nothing → v ≡ Refused (DanglingChild (id_at table i) x) → v ≡ child_where table pairs i x (where_is (ids table held_width n) x)
   unfolding child_where
   child-nowhere told e = rw (← said, told, e)
 

@@ -3,17 +3,14 @@
 use Rattle.std.specs.Prelude.{ℕ, zero, suc, ◌+◌, ◌*◌, ◌≡◌, Bool, true, false, not, List, [], ◌∷◌, length, get_or}
 use Rattle.std.proofs.Math.Option.{some}
 use Rattle.lists.specs.Lists.{has}
-use Rattle.words.specs.Table.{ids, where_is}
-use Rattle.words.specs.declared.Found.{Found}
-use Rattle.words.specs.declared.Found.TheVariants.{At, Nothing}
+use Rattle.words.specs.Table.{ids, where_is, Found, At, Nothing}
 use Rattle.sorts.specs.Rows.{rows}
 use Rattle.lookups.specs.PairSearch.{has_pair, Ordered}
-use Rattle.answers.specs.declared.Judged.{Judged}
-use Rattle.answers.specs.declared.Judged.TheVariants.{Accepted}
-use Rattle.answers.specs.Answer.{when, refuse2, ◌then◌}
+use Rattle.answers.specs.Answer.{when, ◌then◌, Judged, Accepted, Refused}
 use Rattle.rules.specs.Model.{Segment, lookup}
 use Rattle.rules.specs.Tables.{held_width, optional, stretch, parents_at, children_at}
 use Rattle.rules.specs.Edges.{epoch_rule}
+use Rattle.answers.specs.declared.Refusal.TheVariants.{NonReciprocalEdge, DanglingParent, DanglingChild}
 
 -- k pairs in order, which say of each segment of S what its list has
 pub record Tells (list : Segment → List ℕ) (S : List Segment) (pairs : List ℕ) (k : ℕ) : Type 0 where
@@ -27,23 +24,23 @@ id_at table i = get_or table (i * held_width) 0
 -- the parent of row i that stands in row r: 25, 26
 unfoldable pub parent_at : List ℕ → List ℕ → ℕ → ℕ → Judged
 parent_at table pairs i r =
-    when (not (has_pair (id_at table r) (id_at table i) (rows pairs))) (refuse2 25 (id_at table r) (id_at table i)) then
+    when (not (has_pair (id_at table r) (id_at table i) (rows pairs))) (Refused (NonReciprocalEdge (id_at table r) (id_at table i))) then
     epoch_rule (id_at table r) (id_at table i) (optional (get_or table (r * held_width + 5) 0) (get_or table (r * held_width + 6) 0)) (get_or table (i * held_width + 4) 0)
 
 -- the parent of row i that was looked for: 24
 unfoldable pub parent_where : List ℕ → List ℕ → ℕ → ℕ → Found → Judged
-parent_where table pairs i parent Nothing = refuse2 24 (id_at table i) parent
+parent_where table pairs i parent Nothing = Refused (DanglingParent (id_at table i) parent)
 parent_where table pairs i parent (At r) = parent_at table pairs i r
 
 -- the child of row i that stands in row r: 25
 unfoldable pub child_at : List ℕ → List ℕ → ℕ → ℕ → Judged
 child_at table pairs i r =
-    when (not (has_pair (id_at table r) (id_at table i) (rows pairs))) (refuse2 25 (id_at table i) (id_at table r)) then
+    when (not (has_pair (id_at table r) (id_at table i) (rows pairs))) (Refused (NonReciprocalEdge (id_at table i) (id_at table r))) then
     Accepted
 
 -- the child of row i that was looked for: 27
 unfoldable pub child_where : List ℕ → List ℕ → ℕ → ℕ → Found → Judged
-child_where table pairs i child Nothing = refuse2 27 (id_at table i) child
+child_where table pairs i child Nothing = Refused (DanglingChild (id_at table i) child)
 child_where table pairs i child (At r) = child_at table pairs i r
 
 -- each of a list, in list order: the first refusal

@@ -12,20 +12,35 @@ ghost use Rattle.tabled.specs.Image.{Tabled};
 ghost use Rattle.lookups.specs.Sides.{side};
 ghost use Rattle.edges.specs.Links.{Tells, parent_at, parent_where, child_at, child_where, edge_where, edges_all, row_links};
 
-use answers::Judged;
-use words::Found;
+use answers::Refusal;
 
 // 26: the parent's seal must equal the child's creation.
-fn judge_epochs(parent: u64, child: u64, flag: u64, sealed: u64, created: u64) -> Judged
+fn judge_epochs(
+    parent: u64,
+    child: u64,
+    flag: u64,
+    sealed: u64,
+    created: u64,
+) -> Result<(), Refusal>
     ensures { result ≡ epoch_rule parent child (optional flag sealed) created }
 {
     if flag == 0 {
-        return answers::refuse(26, parent, child, 0, created);
+        return Err(Refusal::EdgeEpochMismatch {
+            parent,
+            child,
+            sealed: 0,
+            created,
+        });
     }
     if sealed != created {
-        return answers::refuse(26, parent, child, sealed, created);
+        return Err(Refusal::EdgeEpochMismatch {
+            parent,
+            child,
+            sealed,
+            created,
+        });
     }
-    Judged::Accepted
+    Ok(())
 }
 
 // Does the index lack the pair?
@@ -38,7 +53,14 @@ fn lacks_pair(pairs: &[u64], k: usize, x: u64, y: u64) -> bool
 }
 
 // 25, 26: the parent of row i that stands in row r.
-fn judge_parent_at(table: &[u64], n: usize, pairs: &[u64], k: usize, i: usize, r: usize) -> Judged
+fn judge_parent_at(
+    table: &[u64],
+    n: usize,
+    pairs: &[u64],
+    k: usize,
+    i: usize,
+    r: usize,
+) -> Result<(), Refusal>
     requires held_width_in_bounds { n * held_width ≤ length table.now }
     requires i_lt_n { (i < n) × (r < n) }
     requires pairs_len { length pairs.now ≡ 3 * k }
@@ -50,13 +72,20 @@ fn judge_parent_at(table: &[u64], n: usize, pairs: &[u64], k: usize, i: usize, r
     let parent = table[p];
     let child = table[c];
     if lacks_pair(pairs, k, parent, child) {
-        return answers::refuse(25, parent, child, 0, 0);
+        return Err(Refusal::NonReciprocalEdge { parent, child });
     }
     judge_epochs(parent, child, table[p + 5], table[p + 6], table[c + 4])
 }
 
 // 24 to 26: one parent of row i.
-fn judge_parent(table: &[u64], n: usize, pairs: &[u64], k: usize, i: usize, parent: u64) -> Judged
+fn judge_parent(
+    table: &[u64],
+    n: usize,
+    pairs: &[u64],
+    k: usize,
+    i: usize,
+    parent: u64,
+) -> Result<(), Refusal>
     requires held_width_in_bounds { n * held_width ≤ length table.now }
     requires i_lt_n { i < n }
     requires ascends { Ascends (ids table.now held_width n) }
@@ -65,16 +94,23 @@ fn judge_parent(table: &[u64], n: usize, pairs: &[u64], k: usize, i: usize, pare
     ensures { result ≡ parent_where table.now pairs.now i parent (where_is (ids table.now held_width n) parent) }
 {
     match words::find_row(table, rules::HELD, n, parent) {
-        Found::At(r) => judge_parent_at(table, n, pairs, k, i, r),
-        Found::Nothing => {
+        Some(r) => judge_parent_at(table, n, pairs, k, i, r),
+        None => {
             let id = table[i * rules::HELD];
-            answers::refuse(24, id, parent, 0, 0)
+            Err(Refusal::DanglingParent { id, parent })
         }
     }
 }
 
 // 25: the child of row i that stands in row r.
-fn judge_child_at(table: &[u64], n: usize, pairs: &[u64], k: usize, i: usize, r: usize) -> Judged
+fn judge_child_at(
+    table: &[u64],
+    n: usize,
+    pairs: &[u64],
+    k: usize,
+    i: usize,
+    r: usize,
+) -> Result<(), Refusal>
     requires held_width_in_bounds { n * held_width ≤ length table.now }
     requires i_lt_n { (i < n) × (r < n) }
     requires pairs_len { length pairs.now ≡ 3 * k }
@@ -84,13 +120,20 @@ fn judge_child_at(table: &[u64], n: usize, pairs: &[u64], k: usize, i: usize, r:
     let child = table[r * rules::HELD];
     let parent = table[i * rules::HELD];
     if lacks_pair(pairs, k, child, parent) {
-        return answers::refuse(25, parent, child, 0, 0);
+        return Err(Refusal::NonReciprocalEdge { parent, child });
     }
-    Judged::Accepted
+    Ok(())
 }
 
 // 27, 25: one child of row i.
-fn judge_child(table: &[u64], n: usize, pairs: &[u64], k: usize, i: usize, child: u64) -> Judged
+fn judge_child(
+    table: &[u64],
+    n: usize,
+    pairs: &[u64],
+    k: usize,
+    i: usize,
+    child: u64,
+) -> Result<(), Refusal>
     requires held_width_in_bounds { n * held_width ≤ length table.now }
     requires i_lt_n { i < n }
     requires ascends { Ascends (ids table.now held_width n) }
@@ -99,10 +142,10 @@ fn judge_child(table: &[u64], n: usize, pairs: &[u64], k: usize, i: usize, child
     ensures { result ≡ child_where table.now pairs.now i child (where_is (ids table.now held_width n) child) }
 {
     match words::find_row(table, rules::HELD, n, child) {
-        Found::At(r) => judge_child_at(table, n, pairs, k, i, r),
-        Found::Nothing => {
+        Some(r) => judge_child_at(table, n, pairs, k, i, r),
+        None => {
             let id = table[i * rules::HELD];
-            answers::refuse(27, id, child, 0, 0)
+            Err(Refusal::DanglingChild { id, child })
         }
     }
 }
@@ -116,7 +159,7 @@ fn judge_edge(
     k: usize,
     i: usize,
     x: u64,
-) -> Judged
+) -> Result<(), Refusal>
     requires held_width_in_bounds { n * held_width ≤ length table.now }
     requires i_lt_n { i < n }
     requires ascends { Ascends (ids table.now held_width n) }
@@ -139,7 +182,7 @@ fn judge_list(
     k: usize,
     i: usize,
     list: &[u64],
-) -> Judged
+) -> Result<(), Refusal>
     requires held_width_in_bounds { n * held_width ≤ length table.now }
     requires i_lt_n { i < n }
     requires ascends { Ascends (ids table.now held_width n) }
@@ -149,16 +192,14 @@ fn judge_list(
 {
     let mut j = 0;
     while j < list.len() {
-        let judged = judge_edge(parents, table, n, pairs, k, i, list[j]);
-        let Judged::Accepted = judged else {
-            return judged;
-        };
+        judge_edge(parents, table, n, pairs, k, i, list[j])?;
         j += 1;
     }
-    Judged::Accepted
+    Ok(())
 }
 
 // 24 to 27 for row i, whose edges begin at `at`.
+#[tactic(auto, unfolding(crate::specs::Links::row_links))]
 fn judge_row(
     table: &[u64],
     edges: &[u64],
@@ -169,11 +210,11 @@ fn judge_row(
     kp: usize,
     i: usize,
     at: usize,
-) -> Judged
+) -> Result<(), Refusal>
     requires held_width_in_bounds { n * held_width ≤ length table.now }
     requires i_lt_n { i < n }
     requires ascends { Ascends (ids table.now held_width n) }
-    requires held_width_in_bounds_2 { at + parents_at table.now (i * held_width) + children_at table.now (i * held_width) ≤ length edges.now }
+    requires edges_in_table { at + parents_at table.now (i * held_width) + children_at table.now (i * held_width) ≤ length edges.now }
     requires cpairs_len { (length cpairs.now ≡ 3 * kc) × Ordered (rows cpairs.now) }
     requires ppairs_len { (length ppairs.now ≡ 3 * kp) × Ordered (rows ppairs.now) }
     ensures { result ≡ row_links table.now edges.now n cpairs.now ppairs.now i at }
@@ -181,10 +222,7 @@ fn judge_row(
     let w = i * rules::HELD;
     let mid = at + table[w + 9] as usize;
     let end = mid + table[w + 10] as usize;
-    let judged = judge_list(true, table, n, cpairs, kc, i, &edges[at..mid]);
-    let Judged::Accepted = judged else {
-        return judged;
-    };
+    judge_list(true, table, n, cpairs, kc, i, &edges[at..mid])?;
     judge_list(false, table, n, ppairs, kp, i, &edges[mid..end])
 }
 
@@ -197,7 +235,7 @@ pub fn judge_links(
     kc: usize,
     ppairs: &[u64],
     kp: usize,
-) -> Judged
+) -> Result<(), Refusal>
     requires tabled { Tabled table.now edges.now n }
     requires tells { Tells (side false) (held_segments table.now edges.now n) cpairs.now kc }
     requires tells_2 { Tells (side true) (held_segments table.now edges.now n) ppairs.now kp }
@@ -206,13 +244,10 @@ pub fn judge_links(
     let mut i = 0;
     let mut at = 0;
     while i < n {
-        let judged = judge_row(table, edges, n, cpairs, kc, ppairs, kp, i, at);
-        let Judged::Accepted = judged else {
-            return judged;
-        };
+        judge_row(table, edges, n, cpairs, kc, ppairs, kp, i, at)?;
         let w = i * rules::HELD;
         at = at + table[w + 9] as usize + table[w + 10] as usize;
         i += 1;
     }
-    Judged::Accepted
+    Ok(())
 }

@@ -6,7 +6,7 @@ ghost use Rattle.std.specs.Prelude.{◌≡◌};
 ghost use Rattle.rules.specs.Update.{body_rule, address_rule, is_stale, kept_name, cleared_name};
 ghost use Rattle.envelope.specs.Parts.{text_or_none, session_holding, session_if};
 
-use answers::{Judged, Updated};
+use answers::{Refusal, Updated};
 use types::records::{Name, Session, Update};
 
 // The text of a name, or the empty one.
@@ -20,24 +20,32 @@ fn text_or_none(name: Name) -> u64
 }
 
 // 41, 42: an update without a layout. Beside a layout an error is ignored.
-fn judge_body(update: Update) -> Judged
+fn judge_body(update: Update) -> Result<(), Refusal>
     ensures { result ≡ body_rule update }
 {
     if update.layout {
-        return Judged::Accepted;
+        return Ok(());
     }
     if update.error {
-        return answers::refuse(41, update.code as u64, text_or_none(update.message), 0, 0);
+        return Err(Refusal::Broker {
+            code: update.code,
+            message: text_or_none(update.message),
+        });
     }
-    answers::refuse(42, update.session, 0, 0, 0)
+    Err(Refusal::Empty {
+        session: update.session,
+    })
 }
 
 // 40, then 41 or 42.
-pub fn judge_address(session: Session, update: Update) -> Judged
+pub fn judge_address(session: Session, update: Update) -> Result<(), Refusal>
     ensures { result ≡ address_rule session update }
 {
     if update.session != session.id {
-        return answers::refuse(40, update.session, session.id, 0, 0);
+        return Err(Refusal::SessionMismatch {
+            got: update.session,
+            expected: session.id,
+        });
     }
     judge_body(update)
 }

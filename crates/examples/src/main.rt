@@ -2,12 +2,12 @@
 // follow one is read from its fixed table.
 #![tactic(auto)]
 
-use answers::{Judged, Refusal};
+use answers::Refusal;
 use shown::{text, word};
 use std::io;
 use types::limits::DagLimits;
 use types::range::{KeyRange, Made};
-use types::records::{Broker, Described, Optional, Placed, SegmentId, SegmentInfo};
+use types::records::{Broker, Optional, SegmentDescriptor, SegmentId, SegmentInfo, Side};
 use types::state::SegmentState;
 
 const ABSENT: Optional = Optional { flag: 0, word: 0 };
@@ -17,11 +17,11 @@ fn refusal(rt: &impl Print, r: Refusal) -> io::Result<()> {
     text(rt, b"\n")
 }
 
-fn judged(rt: &impl Print, label: &[u8], j: Judged) -> io::Result<()> {
+fn judged(rt: &impl Print, label: &[u8], j: Result<(), Refusal>) -> io::Result<()> {
     text(rt, label)?;
     match j {
-        Judged::Accepted => text(rt, b" accepted\n"),
-        Judged::Refused(r) => refusal(rt, r),
+        Ok(()) => text(rt, b" accepted\n"),
+        Err(r) => refusal(rt, r),
     }
 }
 
@@ -49,11 +49,15 @@ fn made(rt: &impl Print, label: &[u8], m: Made) -> io::Result<()> {
     text(rt, b"\n")
 }
 
-fn described(rt: &impl Print, label: &[u8], d: Described) -> io::Result<()> {
+fn described(
+    rt: &impl Print,
+    label: &[u8],
+    d: Result<SegmentDescriptor, Refusal>,
+) -> io::Result<()> {
     text(rt, label)?;
     match d {
-        Described::Refused(r) => refusal(rt, r)?,
-        Described::Descriptor(s) => {
+        Err(r) => refusal(rt, r)?,
+        Ok(s) => {
             text(rt, b" url")?;
             word(rt, s.url.flag)?;
             word(rt, s.url.word)?;
@@ -125,22 +129,22 @@ fn lists(rt: &impl Print) -> io::Result<()> {
     judged(
         rt,
         b"parents 7,8,7 of 5:",
-        segment::list::judge_list(SegmentId(5), 20, &repeated),
+        segment::list::judge_list(SegmentId(5), Side::Parents, &repeated),
     )?;
     judged(
         rt,
         b"parents 7,5,7 of 5:",
-        segment::list::judge_list(SegmentId(5), 20, &own),
+        segment::list::judge_list(SegmentId(5), Side::Parents, &own),
     )?;
     judged(
         rt,
         b"children 7,8 of 5:",
-        segment::list::judge_list(SegmentId(5), 21, &repeated[0..2]),
+        segment::list::judge_list(SegmentId(5), Side::Children, &repeated[0..2]),
     )?;
     judged(
         rt,
         b"children 8,7 of 5, mid-table:",
-        segment::list::judge_list(SegmentId(5), 21, &repeated[1..3]),
+        segment::list::judge_list(SegmentId(5), Side::Children, &repeated[1..3]),
     )
 }
 
@@ -188,8 +192,8 @@ fn info(start: u64, end: u64, state: u64, legacy: Optional) -> SegmentInfo {
     }
 }
 
-fn placed_at(id: u64) -> Placed {
-    Placed::At(Broker {
+fn placed_at(id: u64) -> Option<Broker> {
+    Some(Broker {
         id: SegmentId(id),
         url: 77,
         tls: Optional { flag: 0, word: 99 },
@@ -212,27 +216,27 @@ fn descriptors(rt: &impl Print) -> io::Result<()> {
     described(
         rt,
         b"empty legacy and bad range:",
-        segment::descriptor::describe(info(65536, 0, 1, empty), Placed::Nowhere),
+        segment::descriptor::describe(info(65536, 0, 1, empty), None),
     )?;
     described(
         rt,
         b"a range past the last hash:",
-        segment::descriptor::describe(info(0, 65536, 1, ABSENT), Placed::Nowhere),
+        segment::descriptor::describe(info(0, 65536, 1, ABSENT), None),
     )?;
     described(
         rt,
         b"state 3:",
-        segment::descriptor::describe(info(0, 65535, 3, ABSENT), Placed::Nowhere),
+        segment::descriptor::describe(info(0, 65535, 3, ABSENT), None),
     )?;
     described(
         rt,
         b"a flag of 2:",
-        segment::descriptor::describe(info(0, 65535, 1, odd), Placed::Nowhere),
+        segment::descriptor::describe(info(0, 65535, 1, odd), None),
     )?;
     described(
         rt,
         b"a hash of 33 bits:",
-        segment::descriptor::describe(info(4294967296, 65535, 1, ABSENT), Placed::Nowhere),
+        segment::descriptor::describe(info(4294967296, 65535, 1, ABSENT), None),
     )
 }
 

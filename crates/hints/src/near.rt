@@ -1,19 +1,13 @@
 // A search that is told where to look.
 ghost use Rattle.std.specs.Prelude.{◌≡◌, ℕ, ◌*◌, ◌<◌, ◌≤◌, true, length, slice_index};
 ghost use Rattle.words.specs.Table.{ids, Ascends, where_is};
-ghost use Rattle.words.specs.declared.Found.TheVariants.{At, Nothing};
-
-use words::Found;
 
 // Has row `at` this id?
 fn stands_at(rows: &[u64], width: usize, count: usize, id: u64, at: usize) -> bool
     requires { (0 < width) × (count * width ≤ length rows.now) × Ascends (ids rows.now width count) }
-    ensures { result ≡ true → At at ≡ where_is (ids rows.now width count) id }
+    ensures { result ≡ true → Some at ≡ where_is (ids rows.now width count) id }
 {
-    if at < count {
-        return rows[at * width] == id;
-    }
-    false
+    at < count && rows[at * width] == id
 }
 
 // Are the rows before row `at` below this id? Ids ascend, so the last of them tells.
@@ -21,10 +15,7 @@ fn is_past(rows: &[u64], width: usize, count: usize, id: u64, at: usize) -> bool
     requires { (0 < width) × (count * width ≤ length rows.now) × Ascends (ids rows.now width count) × (at ≤ count) }
     ensures { result ≡ true → (k : ℕ) → k < at → slice_index (ids rows.now width count) k < id }
 {
-    if at == 0 {
-        return true;
-    }
-    rows[(at - 1) * width] < id
+    at == 0 || rows[(at - 1) * width] < id
 }
 
 // Are the rows from row `at` on above it? The first of them tells.
@@ -32,37 +23,28 @@ fn is_short_of(rows: &[u64], width: usize, count: usize, id: u64, at: usize) -> 
     requires { (0 < width) × (count * width ≤ length rows.now) × Ascends (ids rows.now width count) × (at ≤ count) }
     ensures { result ≡ true → (k : ℕ) → at ≤ k → k < count → id < slice_index (ids rows.now width count) k }
 {
-    if at == count {
-        return true;
-    }
-    id < rows[at * width]
+    at == count || id < rows[at * width]
 }
 
 // Does the id lie between two rows, the second of which is row `at`?
 fn lies_before(rows: &[u64], width: usize, count: usize, id: u64, at: usize) -> bool
     requires { (0 < width) × (count * width ≤ length rows.now) × Ascends (ids rows.now width count) }
-    ensures { result ≡ true → Nothing ≡ where_is (ids rows.now width count) id }
+    ensures { result ≡ true → None ≡ where_is (ids rows.now width count) id }
 {
-    if count < at {
-        return false;
-    }
-    if is_past(rows, width, count, id, at) {
-        return is_short_of(rows, width, count, id, at);
-    }
-    false
+    at <= count && is_past(rows, width, count, id, at) && is_short_of(rows, width, count, id, at)
 }
 
 // The row that has this id, as `words::find_row` finds it. The hint is any number: row `at` has the id, or none has it and row `at` is the
 // first above it. A hint that is right takes three looks at most.
-pub fn find_near(rows: &[u64], width: usize, count: usize, id: u64, at: usize) -> Found
+pub fn find_near(rows: &[u64], width: usize, count: usize, id: u64, at: usize) -> Option<usize>
     requires { (0 < width) × (count * width ≤ length rows.now) × Ascends (ids rows.now width count) }
     ensures { result ≡ where_is (ids rows.now width count) id }
 {
     if stands_at(rows, width, count, id, at) {
-        return Found::At(at);
+        return Some(at);
     }
     if lies_before(rows, width, count, id, at) {
-        return Found::Nothing;
+        return None;
     }
     words::find_row(rows, width, count, id)
 }
@@ -89,11 +71,7 @@ fn ahead(at: usize, lo: usize, count: usize) -> usize
     requires { (at ≤ lo) × (lo ≤ count) }
     ensures { (lo ≤ result) × (result ≤ count) }
 {
-    let far = lo - at;
-    if far < count - lo {
-        return lo + far;
-    }
-    count
+    lo + (lo - at).min(count - lo)
 }
 
 // The first row from row `at` on that is not below this id: the hint of a caller whose ids ascend, and whose last hint was `at`. It goes ahead by

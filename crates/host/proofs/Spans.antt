@@ -6,9 +6,7 @@ use mathlib.Core.Path.{◌≡◌, refl, sym, ap, ◌∙◌}
 use mathlib.Core.List.{List}
 use lib.ListN.{length, take, drop}
 use Rattle.words.specs.Part.{part}
-use Rattle.words.specs.declared.Found.{Found}
-use Rattle.words.specs.declared.Found.TheVariants.{At, Nothing}
-use Rattle.answers.specs.declared.Refusal.{Refusal}
+use Rattle.answers.specs.declared.RefusalWords.{RefusalWords}
 use Rattle.rules.specs.Tables.{held_width, start_of, stretch, parents_at, children_at, edges_from}
 use Rattle.rules.specs.Ordering as O
 use Rattle.rules.specs.Ordering.{known_rule, parent_stretch, child_stretch}
@@ -18,6 +16,7 @@ use Rattle.ordering.proofs.Stretches.{known-fit, stretch-found, stretch-nothing}
 use Rattle.host.specs.declared.stretch.RowEdges.{RowEdges}
 use Rattle.crossing.specs.Told.{refusal_of}
 use Rattle.host.specs.Span.{start_in, parents_in, children_in, row_edges, parent_span, child_span}
+use Rattle.words.specs.Table.{Found, At, Nothing}
 
 -- n words from `from` on, as the stretch up to `from + n`
 part-is : (l : List ℕ) (from n : ℕ) → part l from n ≡ stretch l from (from + n)
@@ -73,7 +72,7 @@ module _ (rows edges : List ℕ) (h g id : ℕ) where
 
   -- ---- the two answers, from the row's edges and from 1 or 50
 
-  module _ (at : RowEdges) (refusal : Refusal) (is : at ≡ row_edges rows (known_row rows edges h g id)) (told : refusal ≡ refusal_of (known_rule rows edges h g id)) where
+  module _ (at : RowEdges) (refusal : RefusalWords) (is : at ≡ row_edges rows (known_row rows edges h g id)) (told : refusal ≡ refusal_of (known_rule rows edges h g id)) where
     pub parents-told : (record { refusal = refusal; start = at.start; length = at.parents } ≡ parent_span rows edges h g id)
         × (part edges at.start at.parents ≡ parent_stretch rows edges h g id)
         × (at.start + at.parents ≤ g)

@@ -9,7 +9,7 @@ use mathlib.Core.Bool.{true, false}
 use mathlib.Core.List.{List}
 use lib.Dec.{ltb}
 use lib.ListN.{length, get_or}
-use Rattle.answers.specs.declared.Refusal.{Refusal}
+use Rattle.answers.specs.declared.RefusalWords.{RefusalWords}
 use Rattle.types.specs.declared.records.Assigned.{Assigned}
 use Rattle.rules.specs.Tables.{heads, held_width}
 use Rattle.rules.specs.Shape.{bad_held_rows}
@@ -21,7 +21,7 @@ use Rattle.host.specs.declared.assigned.Turn.{Turn}
 use Rattle.crossing.specs.Told.{refusal_of}
 use Rattle.host.specs.Turns.{turn_words}
 
-pub turn-told : (t : A.Turn) (r : Refusal) → r ≡ refusal_of t.answer → record { next = t.next; answer = r } ≡ turn_words t
+pub turn-told : (t : A.Turn) (r : RefusalWords) → r ≡ refusal_of t.answer → record { next = t.next; answer = r } ≡ turn_words t
 turn-told t r e = rw e refl
 
 pub turned : (v : Turn) (t u : A.Turn) → v ≡ turn_words t → t ≡ u → v ≡ turn_words u

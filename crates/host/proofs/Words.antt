@@ -4,8 +4,7 @@ use mathlib.Core.Path.{◌≡◌, refl, ap, ◌∙◌}
 use mathlib.Core.Bool.{Bool}
 use mathlib.Core.List.{List}
 use lib.ListN.{length}
-use Rattle.answers.specs.declared.Refusal.{Refusal}
-use Rattle.answers.specs.declared.Judged.{Judged}
+use Rattle.answers.specs.declared.RefusalWords.{RefusalWords}
 use Rattle.answers.specs.declared.Ordering.{Ordering}
 use Rattle.types.specs.declared.records.OrderingMode.{OrderingMode}
 use Rattle.types.specs.declared.limits.DagLimits.{DagLimits}
@@ -15,8 +14,9 @@ use Rattle.layout.specs.Lent.{Owed}
 use Rattle.crossing.specs.declared.answer.OrderingWords.{OrderingWords}
 use Rattle.crossing.specs.Told.{refusal_of, ordering_words}
 use Rattle.host.specs.Mode.{mode_of}
+use Rattle.answers.specs.Answer.{Judged}
 
-pub told-as : (v : Refusal) (j k : Judged) → v ≡ refusal_of j → j ≡ k → v ≡ refusal_of k
+pub told-as : (v : RefusalWords) (j k : Judged) → v ≡ refusal_of j → j ≡ k → v ≡ refusal_of k
 told-as v j k said e = said ∙ ap refusal_of e
 
 -- an answer that the judge owes is the rule book's

@@ -1,14 +1,13 @@
 -- Parents and children of a segment as start and length of their stretch of the held edges.
 -- Assumes nothing.
 use Rattle.std.specs.Prelude.{ℕ, ◌+◌, ◌*◌, List}
-use Rattle.words.specs.declared.Found.{Found}
-use Rattle.words.specs.declared.Found.TheVariants.{At, Nothing}
 use Rattle.rules.specs.Tables.{held_width, start_of, parents_at, children_at}
 use Rattle.rules.specs.Ordering.{known_rule}
 use Rattle.ordering.specs.Rows.{known_row}
 use Rattle.crossing.specs.Told.{refusal_of}
 use Rattle.host.specs.declared.stretch.Stretch.{Stretch}
 use Rattle.host.specs.declared.stretch.RowEdges.{RowEdges}
+use Rattle.words.specs.Table.{Found, At, Nothing}
 
 -- where the edges of a row that was found begin, how many are parents and how many children; nothing where none was found
 abbrev pub start_in : List ℕ → Found → ℕ

@@ -8,14 +8,14 @@ ghost use Rattle.assignment.specs.Turns.{before_list, turn_to};
 ghost use Rattle.crossing.specs.Told.{refusal_of};
 ghost use Rattle.host.specs.Turns.{turn_words};
 
-use answers::Refusal;
+use answers::RefusalWords;
 use types::records::Assigned;
 
 // Where the walk stands: the next record, and the answer so far.
 #[derive(Clone, Copy)]
 struct Turn {
     next: usize,
-    answer: Refusal,
+    answer: RefusalWords,
 }
 
 fn told(turn: assignment::Turn) -> Turn
@@ -53,7 +53,7 @@ pub extern "C" fn threshpetal_validate_assignment(
     n: usize,
     dag: u64,
     epoch: u64,
-) -> Refusal
+) -> RefusalWords
     ensures { result ≡ refusal_of (assignment_rule rows.now n dag epoch list.now) }
 {
     let mut t = first_turn(list.len(), rows, n, dag, epoch);

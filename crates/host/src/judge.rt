@@ -4,7 +4,7 @@ ghost use Rattle.rules.specs.Judge.{judgement};
 ghost use Rattle.layout.specs.Lent.{tables_of, areas_of, Owed};
 ghost use Rattle.crossing.specs.Told.{refusal_of};
 
-use answers::Refusal;
+use answers::RefusalWords;
 use types::limits::DagLimits;
 
 // `layout::judge_layout_with_limits`: the answer is that of the rule book, and every lent word afterwards is what an answer of the rule
@@ -21,7 +21,7 @@ pub extern "C" fn threshpetal_judge(
     held: &mut [u64],
     links: &mut [u64],
     order: &mut [u64],
-) -> Refusal
+) -> RefusalWords
     ensures value { result ≡ refusal_of (judgement epoch size limits (tables_of rows.now edges.now places.now) (length work.old) (areas_of held.old links.old order.old)) }
     ensures owed { Owed epoch size limits (tables_of rows.now edges.now places.now) work.old (areas_of held.old links.old order.old) (judgement epoch size limits (tables_of rows.now edges.now places.now) (length work.old) (areas_of held.old links.old order.old)) work.new held.new links.new order.new }
 {

@@ -7,15 +7,14 @@ ghost use Rattle.ordering.specs.Rows.{known_row};
 ghost use Rattle.crossing.specs.Told.{refusal_of};
 ghost use Rattle.host.specs.Span.{row_edges, parent_span, child_span};
 
-use answers::Refusal;
+use answers::RefusalWords;
 use types::records::SegmentId;
-use words::Found;
 
 // 1 or 50, or where the stretch begins in the held edges and how many ids it has.
 #[repr(C)]
 #[derive(Clone, Copy)]
 pub struct Stretch {
-    pub refusal: Refusal,
+    pub refusal: RefusalWords,
     pub start: usize,
     pub length: usize,
 }
@@ -31,7 +30,7 @@ struct RowEdges {
 // Row `row` of h held rows that have g edge words.
 fn edges_in(rows: &[u64], h: usize, g: usize, row: usize) -> RowEdges
     requires { (row < h) × (h * held_width ≤ length rows.now) × (edges_from held_width rows.now h 0 ≡ g) }
-    ensures { result ≡ row_edges rows.now (Found.At row) }
+    ensures { result ≡ row_edges rows.now (Some row) }
 {
     let start = ordering::known::edge_start(rows, h, g, row);
     let w = row * rules::HELD;
@@ -47,8 +46,8 @@ fn edges_of(rows: &[u64], edges: &[u64], h: usize, g: usize, segment: u64) -> Ro
 {
     let found = ordering::known::known_row(rows, edges, h, g, segment);
     match found {
-        Found::At(row) => edges_in(rows, h, g, row),
-        Found::Nothing => RowEdges {
+        Some(row) => edges_in(rows, h, g, row),
+        None => RowEdges {
             start: 0,
             parents: 0,
             children: 0,
@@ -57,7 +56,7 @@ fn edges_of(rows: &[u64], edges: &[u64], h: usize, g: usize, segment: u64) -> Ro
 }
 
 // 1, 50.
-fn refusal_for(rows: &[u64], edges: &[u64], h: usize, g: usize, segment: u64) -> Refusal
+fn refusal_for(rows: &[u64], edges: &[u64], h: usize, g: usize, segment: u64) -> RefusalWords
     ensures { result ≡ refusal_of (known_rule rows.now edges.now h g segment) }
 {
     let judged = ordering::judge_known(rows, edges, h, g, SegmentId(segment));

@@ -9,9 +9,7 @@ use mir.Val.{Fits}
 use mir.Syntax.{w64}
 use lib.ListN.{length, get_or}
 use Rattle.words.specs.Part.{part, put}
-use Rattle.words.specs.Table.{ids, where_is, Ascends}
-use Rattle.words.specs.declared.Found.{Found}
-use Rattle.words.specs.declared.Found.TheVariants.{At, Nothing}
+use Rattle.words.specs.Table.{ids, where_is, Ascends, Found, At, Nothing}
 use Rattle.words.proofs.PartLaws.{part-as, part_at, part_length}
 use Rattle.words.proofs.TableLaws.{row-found}
 use Rattle.rules.specs.Model.{Site, site_of}

@@ -5,9 +5,7 @@ use Rattle.std.specs.Prelude.{ℕ, ◌+◌, ◌*◌, ◌≤◌, ◌≡◌, List,
 use Rattle.std.proofs.Math.Option.{Option, none, some}
 use Rattle.lists.specs.Sort.{Row}
 use Rattle.words.specs.Part.{part}
-use Rattle.words.specs.Table.{ids, Ascends, where_is}
-use Rattle.words.specs.declared.Found.{Found}
-use Rattle.words.specs.declared.Found.TheVariants.{At, Nothing}
+use Rattle.words.specs.Table.{ids, Ascends, where_is, Found, At, Nothing}
 use Rattle.sorts.specs.Rows.{rows}
 use Rattle.rules.specs.Model.{Site, Placement, site_of}
 use Rattle.rules.specs.Tables.{row_width, place_width, head_at, parents_at, children_at, stretch, placement_at, held_words}

@@ -50,7 +50,7 @@ fn copy_edges(
 // The held edges, behind the n rows, by the same index.
 fn write_edges(w: &mut [u64], table: &[u64], n: usize, edges: &[u64], a: usize)
     requires row_width_in_bounds { n * row_width ≤ length table.now }
-    requires n_value { edges_from row_width table.now n 0 ≡ length edges.now }
+    requires counts_match { edges_from row_width table.now n 0 ≡ length edges.now }
     requires edges_bound { n * held_width + length edges.now ≤ a }
     requires n_in_bounds { a + 3 * n ≤ length w.old }
     requires indexed { Indexed (part w.old a (3 * n)) table.now n }
@@ -78,7 +78,7 @@ pub fn write_image(
     b: usize,
 )
     requires edges_bound { n * held_width + length edges.now ≤ a }
-    requires n_value { edges_from row_width table.now n 0 ≡ length edges.now }
+    requires counts_match { edges_from row_width table.now n 0 ≡ length edges.now }
     requires ready { Ready w.old table.now n places.now m a b }
     ensures { w.new ≡ put w.old 0 (n * held_width + length edges.now) (held_rows (segments table.now edges.now n) (placements places.now m) ++ held_edges (segments table.now edges.now n) (placements places.now m)) }
 {

@@ -6,8 +6,6 @@ ghost use Rattle.words.specs.Table.{ids, Ascends};
 ghost use Rattle.rules.specs.Tables.{head_width, row_width, held_width, place_width, optional, head_at, parents_at, children_at, placement_at, placements, option_words, head_words, site_words};
 ghost use Rattle.image.specs.Written.{Placed, Inside, row_words, place_found, site_found};
 
-use words::Found;
-
 // The optional field in the two words from `at`: absent is 0, 0, and present is 1 and the word.
 fn fix_option(w: &mut [u64], at: usize)
     requires { at + 2 ≤ length w.old }
@@ -54,19 +52,19 @@ fn no_site(w: &mut [u64], at: usize)
 }
 
 // The site of the placement row that was found.
-fn write_site(w: &mut [u64], at: usize, places: &[u64], found: Found)
+fn write_site(w: &mut [u64], at: usize, places: &[u64], found: Option<usize>)
     requires at_in_bounds { at + 4 ≤ length w.old }
     requires inside { Inside places.now found }
     ensures { w.new ≡ put w.old at 4 (site_words (site_found places.now found)) }
 {
     match found {
-        Found::At(k) => copy_site(w, at, places, k * rules::PLACE),
-        Found::Nothing => no_site(w, at),
+        Some(k) => copy_site(w, at, places, k * rules::PLACE),
+        None => no_site(w, at),
     }
 }
 
 // The row of the placement with that id, by the index of m placement rows that lies from b on.
-fn find_place(w: &[u64], b: usize, m: usize, id: u64) -> Found
+fn find_place(w: &[u64], b: usize, m: usize, id: u64) -> Option<usize>
     requires m_in_bounds { b + 3 * m ≤ length w.now }
     requires ascends { Ascends (ids (part w.now b (3 * m)) 3 m) }
     ensures { result ≡ place_found (part w.now b (3 * m)) m id }
@@ -74,8 +72,8 @@ fn find_place(w: &[u64], b: usize, m: usize, id: u64) -> Found
     let e = b + 3 * m;
     let found = words::find_row(&w[b..e], 3, m, id);
     match found {
-        Found::At(q) => Found::At(w[b + q * 3 + 1] as usize),
-        Found::Nothing => Found::Nothing,
+        Some(q) => Some(w[b + q * 3 + 1] as usize),
+        None => None,
     }
 }
 

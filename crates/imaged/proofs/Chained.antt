@@ -6,9 +6,7 @@ use mathlib.Core.Path.{◌≡◌, sym, ap, ◌∙◌}
 use mathlib.Core.List.{List}
 use lib.ListN.{take}
 use Rattle.words.specs.Part.{part}
-use Rattle.answers.specs.declared.Judged.{Judged}
-use Rattle.answers.specs.declared.Judged.TheVariants.{Accepted}
-use Rattle.answers.specs.Answer.{◌then◌}
+use Rattle.answers.specs.Answer.{◌then◌, Judged, Accepted}
 use Rattle.answers.proofs.Judging.{then-accepted}
 use Rattle.rules.specs.Model.{Segment}
 use Rattle.rules.specs.Order.{Ordered, in_order, too_deep, cyclic, ordered_rule, order_words}

@@ -10,12 +10,9 @@ use lib.ListN.{length, get_or}
 use Rattle.lists.specs.Lists.{◌∈◌}
 use Rattle.lists.proofs.Cases.{lt-or-le}
 use Rattle.lists.proofs.HasAt.{has-at}
-use Rattle.words.specs.Table.{ids, where_is}
-use Rattle.words.specs.declared.Found.{Found}
-use Rattle.words.specs.declared.Found.TheVariants.{At, Nothing}
+use Rattle.words.specs.Table.{ids, where_is, Found, At, Nothing}
 use Rattle.words.proofs.PartLaws.{part_length, part_at}
 use Rattle.words.proofs.TableLaws.{length_ids, ids_at, is_at}
-use Rattle.answers.specs.declared.Judged.TheVariants.{Accepted}
 use Rattle.rules.specs.Model.{Segment, lookup}
 use Rattle.rules.specs.Tables.{held_width, parents_at, children_at, edges_from, start_of, stretch, held_segments}
 use Rattle.rules.specs.Edges.{links_from}
@@ -24,6 +21,7 @@ use Rattle.rules.proofs.Accepts.{parents-known, children-known}
 use Rattle.tabled.specs.Image.{Tabled, segment_in, segment_found, Image, image_rows, image_edges, image_segments}
 use Rattle.tabled.proofs.ByRow.{lookup-found}
 use Rattle.ordered.specs.Left.{Closed}
+use Rattle.answers.specs.Answer.{Accepted}
 
 -- the row in whose stretch place k of the edges lies
 record Row (rows : List ℕ) (n k : ℕ) : Type 0 where

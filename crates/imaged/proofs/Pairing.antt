@@ -16,7 +16,6 @@ use Rattle.words.proofs.PartLaws.{part_length}
 use Rattle.sorts.specs.Rows as Sorts
 use Rattle.rules.specs.Model.{Segment, lookup, by_id}
 use Rattle.rules.specs.Tables.{row_width, held_width, segments, held_segments}
-use Rattle.answers.specs.declared.Judged.{Judged}
 use Rattle.rules.specs.Edges.{links_from}
 use Rattle.rules.proofs.Ascended.{lookup-by_id}
 use Rattle.tabled.specs.Image.{Tabled, image_rows, image_edges, image_segments}
@@ -28,6 +27,7 @@ use Rattle.edges.specs.Links.{Tells}
 use Rattle.tabled.proofs.Kept.{part-kept, segments-kept, image-kept}
 use Rattle.imaged.specs.Asked.{behind, Imaged, Indexed, Paired}
 use Rattle.imaged.proofs.Front.{front_less}
+use Rattle.answers.specs.Answer.{Judged}
 
 module _ (rows edges : List ℕ) (n : ℕ) (once : NoTwins rows row_width n) (S : List Segment) (same : S ≡ by_id (segments rows edges n)) where
   index-tells : (b : Bool) (pairs : List ℕ) (k : ℕ) → length pairs ≡ 3 * k → Sorts.rows pairs ≡ pair_index b row_width rows edges n → Tells (side b) S pairs k

@@ -1,8 +1,7 @@
 -- 28 to 35 over segments that ascend by id: what the rule book says of any list (`order_rule`, `transitions_rule`, `coverage_rule`), without the sort.
 -- Assumes nothing.
 use Rattle.std.specs.Prelude.{ℕ, List, [], map}
-use Rattle.answers.specs.declared.Judged.{Judged}
-use Rattle.answers.specs.Answer.{◌then◌}
+use Rattle.answers.specs.Answer.{◌then◌, Judged}
 use Rattle.rules.specs.Model.{Segment}
 use Rattle.rules.specs.Order.{node_of, Ordered, order_from, ordered_rule}
 use Rattle.rules.specs.Tiling.{forks_from, joins_from, active_of, coverage_rule}

@@ -1,40 +1,36 @@
 // 28 to 35 of an image whose every edge leads to a row.
 ghost use Rattle.std.specs.Prelude.{◌≡◌, ◌+◌, ◌*◌, ◌≤◌, length, take};
 ghost use Rattle.words.specs.Part.{part};
-ghost use Rattle.answers.specs.declared.Judged.TheVariants.{Accepted};
+ghost use Rattle.answers.specs.Answer.{Accepted};
 ghost use Rattle.rules.specs.Order.{order_words};
 ghost use Rattle.tabled.specs.Image.{Image, image_segments};
 ghost use Rattle.imaged.specs.Asked.{behind, Graphed};
 ghost use Rattle.imaged.specs.Judging.{order_in, ranges_in, graph_in};
 
-use answers::Judged;
+use answers::Refusal;
 use ordered::judging::judge_order;
 
 // 30 to 35. The words before `at` stay.
-fn judge_ranges(w: &mut [u64], n: usize, e: usize, at: usize) -> Judged
+#[tactic(auto, unfolding(crate::specs::Judging::ranges_in))]
+fn judge_ranges(w: &mut [u64], n: usize, e: usize, at: usize) -> Result<(), Refusal>
     requires image { Image w.old n e }
     requires e_bound { behind n e ≤ at }
     requires e_in_bounds { at + 3 * n + 3 * e ≤ length w.old }
     ensures value { result ≡ ranges_in (image_segments w.old n e) }
     ensures w_unchanged { take at w.new ≡ take at w.old }
 {
-    let judged = transitions::judge_transitions(w, n, e, at);
-    let Judged::Accepted = judged else {
-        return judged;
-    };
+    transitions::judge_transitions(w, n, e, at)?;
     transitions::judge_active(w, n, e, at)
 }
 
 // 28 to 35. The words before `at` stay; the order is left in the n words from at + 4n on, and ranges are placed behind all that it used.
-pub fn judge_graph(w: &mut [u64], n: usize, e: usize, at: usize, depth: u64) -> Judged
+#[tactic(auto, unfolding(crate::specs::Judging::graph_in))]
+pub fn judge_graph(w: &mut [u64], n: usize, e: usize, at: usize, depth: u64) -> Result<(), Refusal>
     requires { Graphed w.old n e at }
     ensures value { result ≡ graph_in depth n (image_segments w.old n e) }
     ensures w_unchanged { take at w.new ≡ take at w.old }
     ensures n_after { result ≡ Accepted → part w.new (at + 4 * n) n ≡ order_words (order_in depth n (image_segments w.old n e)) }
 {
-    let judged = judge_order(w, n, e, at, depth);
-    let Judged::Accepted = judged else {
-        return judged;
-    };
+    judge_order(w, n, e, at, depth)?;
     judge_ranges(w, n, e, at + (7 * n + 1 + e))
 }

@@ -4,7 +4,7 @@
 
 ghost use Rattle.std.specs.Prelude.{◌≡◌, ◌+◌, ◌*◌, take};
 ghost use Rattle.words.specs.Part.{part};
-ghost use Rattle.answers.specs.declared.Judged.TheVariants.{Accepted};
+ghost use Rattle.answers.specs.Answer.{Accepted};
 ghost use Rattle.answers.specs.Answer.{◌then◌};
 ghost use Rattle.rules.specs.Tables.{segments};
 ghost use Rattle.rules.specs.Edges.{edges_rule};
@@ -12,7 +12,7 @@ ghost use Rattle.rules.specs.Order.{order_of, order_rule, order_words};
 ghost use Rattle.rules.specs.Tiling.{transitions_rule, active_of, coverage_rule};
 ghost use Rattle.imaged.specs.Asked.{behind, Imaged};
 
-use answers::Judged;
+use answers::Refusal;
 
 pub mod graph;
 pub mod links;
@@ -25,15 +25,12 @@ pub fn judge_image(
     rows: &[u64],
     edges: &[u64],
     depth: u64,
-) -> Judged
+) -> Result<(), Refusal>
     requires { Imaged w.old n e rows.now edges.now }
     ensures value { result ≡ (edges_rule (segments rows.now edges.now n) then (order_rule depth (segments rows.now edges.now n) then transitions_rule (segments rows.now edges.now n) then coverage_rule (active_of (segments rows.now edges.now n)))) }
     ensures w_unchanged { take (behind n e) w.new ≡ take (behind n e) w.old }
     ensures n_after { result ≡ Accepted → part w.new (behind n e + 4 * n) n ≡ order_words (order_of depth (segments rows.now edges.now n)) }
 {
-    let judged = links::judge_edges_in(w, n, e, rows, edges);
-    let Judged::Accepted = judged else {
-        return judged;
-    };
+    links::judge_edges_in(w, n, e, rows, edges)?;
     graph::judge_graph(w, n, e, n * rules::HELD + e, depth)
 }

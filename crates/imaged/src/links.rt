@@ -7,7 +7,7 @@ ghost use Rattle.tabled.specs.Image.{image_segments};
 ghost use Rattle.lookups.specs.Sides.{sides_from};
 ghost use Rattle.imaged.specs.Asked.{behind, Imaged, Indexed, Paired};
 
-use answers::Judged;
+use answers::Refusal;
 use lookups::links::{count_pairs, index_pairs};
 
 // The index of the k pairs of one side, from word `from` on.
@@ -22,8 +22,8 @@ fn index_side(
 )
     requires k_in_bounds { from + 3 * k ≤ length w.old }
     requires row_width_in_bounds { n * row_width ≤ length rows.now }
-    requires n_value { edges_from row_width rows.now n 0 ≡ length edges.now }
-    requires n_value_2 { sides_from parents row_width rows.now n 0 ≡ k }
+    requires counts_match { edges_from row_width rows.now n 0 ≡ length edges.now }
+    requires pairs_counted { sides_from parents row_width rows.now n 0 ≡ k }
     ensures { Indexed parents rows.now edges.now n w.old w.new from k }
 {
     let to = from + 3 * k;
@@ -44,7 +44,7 @@ fn index_both(w: &mut [u64], n: usize, e: usize, rows: &[u64], edges: &[u64]) ->
 }
 
 // 24 to 27 where both indexes stand.
-fn judge_paired(w: &[u64], n: usize, e: usize, k: usize) -> Judged
+fn judge_paired(w: &[u64], n: usize, e: usize, k: usize) -> Result<(), Refusal>
     requires { Paired w.now n e k }
     ensures { result ≡ links_from (image_segments w.now n e) (image_segments w.now n e) }
 {
@@ -57,7 +57,13 @@ fn judge_paired(w: &[u64], n: usize, e: usize, k: usize) -> Judged
 }
 
 // 24 to 27. The image stays.
-pub fn judge_edges_in(w: &mut [u64], n: usize, e: usize, rows: &[u64], edges: &[u64]) -> Judged
+pub fn judge_edges_in(
+    w: &mut [u64],
+    n: usize,
+    e: usize,
+    rows: &[u64],
+    edges: &[u64],
+) -> Result<(), Refusal>
     requires { Imaged w.old n e rows.now edges.now }
     ensures value { result ≡ links_from (image_segments w.old n e) (image_segments w.old n e) }
     ensures w_unchanged { take (behind n e) w.new ≡ take (behind n e) w.old }

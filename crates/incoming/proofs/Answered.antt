@@ -6,8 +6,6 @@ use mathlib.Core.Path.{◌≡◌, refl}
 use mathlib.Core.List.{List}
 use lib.ListN.{length}
 use Rattle.answers.specs.declared.Refusal.{Refusal}
-use Rattle.answers.specs.declared.Judged.{Judged}
-use Rattle.answers.specs.declared.Judged.TheVariants.{Accepted, Refused}
 use Rattle.types.specs.declared.limits.DagLimits.{DagLimits}
 use Rattle.rules.specs.Model.{Segment, Placement}
 use Rattle.rules.specs.Tables.{segments, placements}
@@ -15,6 +13,7 @@ use Rattle.rules.specs.Rows.{size_rule, placements_rule, rows_rule, dangling_rul
 use Rattle.image.specs.Written.{Ready}
 use Rattle.incoming.specs.Incoming.{incoming_rule}
 use Rattle.incoming.proofs.Counts.{segments-count, placements-count}
+use Rattle.answers.specs.Answer.{Judged, Accepted, Refused}
 
 module _ (epoch size : ℕ) (limits : DagLimits) (table edges : List ℕ) (n : ℕ) (places : List ℕ) (m : ℕ) (x : Judged) (sized : x ≡ size_rule limits size n m) where
   abbrev ss : List Segment

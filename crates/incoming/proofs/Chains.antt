@@ -5,9 +5,7 @@ use native.Mathlib.Omega.{arith}
 use mathlib.Core.Path.{◌≡◌, refl, sym, ap, ◌∙◌}
 use mathlib.Core.List.{List, [], ◌∷◌}
 use lib.ListN.{length}
-use Rattle.answers.specs.declared.Judged.{Judged}
-use Rattle.answers.specs.declared.Judged.TheVariants.{Accepted, Refused}
-use Rattle.answers.specs.Answer.{◌then◌, refuse0}
+use Rattle.answers.specs.Answer.{◌then◌, Judged, Accepted, Refused}
 use Rattle.answers.proofs.Judging.{then-left, then-right}
 use Rattle.words.specs.Twins.{NoTwins}
 use Rattle.types.specs.declared.limits.DagLimits.{DagLimits}
@@ -20,6 +18,7 @@ use Rattle.rules.specs.Tiling.{forks_from, joins_from, transitions_rule, active_
 use Rattle.rules.specs.Layout.{graph_rule, layout_rule}
 use Rattle.judging.proofs.Distinct.{rows-distinct}
 use Rattle.incoming.specs.Incoming.{incoming_rule}
+use Rattle.answers.specs.declared.Refusal.TheVariants.{NoActiveSegments}
 
 then-assoc : (a b c : Judged) → (a then b) then c ≡ a then (b then c)
 then-assoc Accepted b c = refl
@@ -38,11 +37,11 @@ module _ (epoch size : ℕ) (limits : DagLimits) where
   layout_is ss ps = four (size_rule limits size (length ss) (length ps)) (placements_rule ps) (rows_rule epoch limits.edges ss) (dangling_rule ss ps) (edges_rule ss then graph_rule limits ss)
 
   -- 24 to 32 find nothing to refuse where there is no segment
-  nothing_left : edges_rule [] then graph_rule limits [] ≡ refuse0 33
+  nothing_left : edges_rule [] then graph_rule limits [] ≡ Refused NoActiveSegments
   unfolding edges_rule links_from graph_rule order_rule ordered_rule order_of order_from transitions_rule forks_from joins_from active_of coverage_rule
   nothing_left = refl
 
-  pub incoming-empty : (ss : List Segment) (ps : List Placement) → length ss ≡ 0 → layout_rule epoch size limits ss ps ≡ incoming_rule epoch size limits ss ps then refuse0 33
+  pub incoming-empty : (ss : List Segment) (ps : List Placement) → length ss ≡ 0 → layout_rule epoch size limits ss ps ≡ incoming_rule epoch size limits ss ps then Refused NoActiveSegments
   incoming-empty [] ps h = layout_is [] ps ∙ ap (λ (t : Judged). incoming_rule epoch size limits [] ps then t) nothing_left
   incoming-empty (s ∷ ss) ps h = absurd (omega arith)
 

@@ -5,8 +5,6 @@ use native.Mathlib.Omega.{arith}
 use mathlib.Core.Path.{◌≡◌, refl, sym, ap, ◌∙◌}
 use mathlib.Core.List.{List}
 use lib.ListN.{length}
-use Rattle.answers.specs.declared.Judged.{Judged}
-use Rattle.answers.specs.declared.Judged.TheVariants.{Accepted}
 use Rattle.words.specs.Part.{part}
 use Rattle.words.specs.Table.{ids, Ascends}
 use Rattle.words.proofs.PartLaws.{part-as, part_length}
@@ -19,6 +17,7 @@ use Rattle.judging.proofs.Distinct.{rows-distinct, places-distinct}
 use Rattle.lookups.proofs.Dangling.{dangling-is}
 use Rattle.image.specs.Written.{Ready}
 use Rattle.incoming.specs.Incoming.{first_at, second_at, flags_at, Given}
+use Rattle.answers.specs.Answer.{Judged, Accepted}
 
 module _ (n : ℕ) (edges : List ℕ) (m : ℕ) where
   abbrev a : ℕ

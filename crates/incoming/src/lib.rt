@@ -4,18 +4,24 @@
 ghost use Rattle.std.specs.Prelude.{◌≡◌, ◌+◌, ◌-◌, ◌*◌, ◌≤◌, length};
 ghost use Rattle.words.specs.Part.{part};
 ghost use Rattle.sorts.specs.Rows.{rows};
-ghost use Rattle.answers.specs.declared.Judged.TheVariants.{Accepted};
+ghost use Rattle.answers.specs.Answer.{Accepted};
 ghost use Rattle.rules.specs.Tables.{row_width, place_width, edges_from, segments, placements};
 ghost use Rattle.rules.specs.Rows.{placements_rule, rows_rule};
 ghost use Rattle.indexes.specs.Index.{segment_index, placement_index};
 ghost use Rattle.image.specs.Written.{Ready};
 ghost use Rattle.incoming.specs.Incoming.{incoming_rule, first_at, second_at, Given};
 
-use answers::Judged;
+use answers::Refusal;
 use types::limits::DagLimits;
 
 // 6, 7. The index of the placements goes to the words from b up to f, the twin flags to those from f on.
-fn judge_placements_in(w: &mut [u64], places: &[u64], m: usize, b: usize, f: usize) -> Judged
+fn judge_placements_in(
+    w: &mut [u64],
+    places: &[u64],
+    m: usize,
+    b: usize,
+    f: usize,
+) -> Result<(), Refusal>
     requires place_width_in_bounds { m * place_width ≤ length places.now }
     requires m_value { b + 3 * m ≡ f }
     requires m_in_bounds { f + m ≤ length w.old }
@@ -39,10 +45,10 @@ fn judge_rows_in(
     a: usize,
     b: usize,
     f: usize,
-) -> Judged
+) -> Result<(), Refusal>
     requires row_width_in_bounds { n * row_width ≤ length table.now }
-    requires n_value { edges_from row_width table.now n 0 ≡ length edges.now }
-    requires n_value_2 { a + 3 * n ≡ b }
+    requires counts_match { edges_from row_width table.now n 0 ≡ length edges.now }
+    requires b_follows { a + 3 * n ≡ b }
     requires b_le_f { b ≤ f }
     requires n_in_bounds { f + n ≤ length w.old }
     ensures value { result ≡ rows_rule epoch limit (segments table.now edges.now n) }
@@ -67,27 +73,18 @@ pub fn judge_incoming(
     edges: &[u64],
     places: &[u64],
     m: usize,
-) -> Judged
+) -> Result<(), Refusal>
     requires { Given w.old table.now n edges.now places.now m }
     ensures value { result ≡ incoming_rule epoch size limits (segments table.now edges.now n) (placements places.now m) }
     ensures ready { result ≡ Accepted → Ready w.new table.now n places.now m (first_at n (length edges.now)) (second_at n (length edges.now)) }
     ensures w_len_unchanged { length w.new ≡ length w.old }
 {
     let limit = limits.edges;
-    let sized = judging::sizes::judge_sizes(limits, size, n, m);
-    let Judged::Accepted = sized else {
-        return sized;
-    };
+    judging::sizes::judge_sizes(limits, size, n, m)?;
     let a = n * rules::HELD + edges.len();
     let b = a + 3 * n;
     let f = b + 3 * m;
-    let placed = judge_placements_in(w, places, m, b, f);
-    let Judged::Accepted = placed else {
-        return placed;
-    };
-    let listed = judge_rows_in(w, epoch, limit, table, n, edges, a, b, f);
-    let Judged::Accepted = listed else {
-        return listed;
-    };
+    judge_placements_in(w, places, m, b, f)?;
+    judge_rows_in(w, epoch, limit, table, n, edges, a, b, f)?;
     lookups::ids::judge_dangling(&w[a..b], n, &w[b..f], m)
 }

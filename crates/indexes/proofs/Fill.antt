@@ -72,6 +72,6 @@ pub index_is : (table : List ℕ) (n : ℕ) (x k : List Row) → x ≡ sorted le
 unfolding segment_index
 index_is table n x k e f = e ∙ ap (sorted le3) f
 
-pub place-index-is : (table : List ℕ) (m : ℕ) (x k : List Row) → x ≡ sorted le3 k → k ≡ placement_keys table m 0 → x ≡ placement_index table m
+pub place_index_is : (table : List ℕ) (m : ℕ) (x k : List Row) → x ≡ sorted le3 k → k ≡ placement_keys table m 0 → x ≡ placement_index table m
 unfolding placement_index
-place-index-is table m x k e f = e ∙ ap (sorted le3) f
+place_index_is table m x k e f = e ∙ ap (sorted le3) f

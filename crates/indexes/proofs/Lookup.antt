@@ -12,9 +12,7 @@ use mathlib.Core.Logic.{⊎_elim}
 use lib.ListN.{length, get_or, length-map, get_or-map}
 use lib.Dec.{eqb, leb}
 use borrow.Author.Tests.{le-leb, lt-leb, eq-eqb, ne_eqb}
-use Rattle.words.specs.Table.{ids, where_is, Ascends}
-use Rattle.words.specs.declared.Found.{Found}
-use Rattle.words.specs.declared.Found.TheVariants.{At, Nothing}
+use Rattle.words.specs.Table.{ids, where_is, Ascends, Found, At, Nothing}
 use Rattle.lists.proofs.Cases.{lt-or-le, eq-or-ne}
 use Rattle.words.proofs.TableLaws.{length_ids, ids_at, at-is, nothing_is}
 use Rattle.lists.specs.Sort.{Row, insert, sorted}

@@ -8,8 +8,8 @@ use mathlib.Core.Path.{◌≡◌, refl, sym, ap, ◌∙◌}
 use mathlib.Core.List.{List}
 use Prim.Native.Nat.{ℕ, zero, suc, ◌+◌, ◌-◌, ◌*◌, ◌≤◌, ◌<◌}
 use lib.ListN.{length, get_or, take, set, replicate}
-use lib.Seq.{take_all, set_out}
-use borrow.Author.Tests.{eq-eqb, ne_eqb}
+use lib.Seq.{take_all}
+use borrow.Author.Tests.{eq-eqb}
 use Rattle.lists.specs.Sort.{Row}
 use Rattle.words.specs.Part.{part, put}
 use Rattle.words.proofs.PartLaws.{put-part, put-put, part-put, part_length, part_at, get-before, set-part, Loan, loan}
@@ -22,12 +22,6 @@ use Rattle.indexes.proofs.TwinLaws.{paired-one, paired-more, length-paired, tell
 -- ---- one test
 
 module _ (w : List ℕ) (to n x y k : ℕ) where
-  pub differ : (x ≡ y → ⊥) → w ≡ put w to n (marked x y k (part w to n))
-  differ h = rw (ne_eqb x y h) (sym (put-part w to n))
-
-  pub past : to + n ≤ length w → x ≡ y → n ≤ k → w ≡ put w to n (marked x y k (part w to n))
-  past f h g = rw (eq-eqb x y h, set_out (part w to n) k 1 (omega (arith, part_length w to n f))) (sym (put-part w to n))
-
   pub here : to + n ≤ length w → x ≡ y → k < n → set w (to + k) 1 ≡ put w to n (marked x y k (part w to n))
   here f h g = rw (eq-eqb x y h) (set-part w to n k 1 g f)
 

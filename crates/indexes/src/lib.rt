@@ -12,17 +12,15 @@ pub mod twins;
 fn fill_rows(index: &mut [u64], table: &[u64], n: usize, total: usize)
     requires index_len { length index.old ≡ 3 * n }
     requires row_width_in_bounds { n * row_width ≤ length table.now }
-    requires n_value { edges_from row_width table.now n 0 ≡ total }
+    requires counts_match { edges_from row_width table.now n 0 ≡ total }
     ensures { rows index.new ≡ segment_keys table.now n 0 0 }
 {
-    let mut i = 0;
     let mut at = 0;
-    while i < n {
+    for i in 0..n {
         let w = i * rules::ROW;
         let id = table[w];
         sorts::put3(index, i, id, i as u64, at as u64);
-        at = at + table[w + 9] as usize + table[w + 10] as usize;
-        i += 1;
+        at = at + table[w + rules::PARENTS] as usize + table[w + rules::CHILDREN] as usize;
     }
 }
 
@@ -30,7 +28,7 @@ fn fill_rows(index: &mut [u64], table: &[u64], n: usize, total: usize)
 pub fn index_rows(index: &mut [u64], table: &[u64], n: usize, total: usize)
     requires index_len { length index.old ≡ 3 * n }
     requires row_width_in_bounds { n * row_width ≤ length table.now }
-    requires n_value { edges_from row_width table.now n 0 ≡ total }
+    requires counts_match { edges_from row_width table.now n 0 ≡ total }
     ensures { rows index.new ≡ segment_index table.now n }
 {
     fill_rows(index, table, n, total);
@@ -43,11 +41,9 @@ fn fill_places(index: &mut [u64], table: &[u64], m: usize)
     requires place_width_in_bounds { m * place_width ≤ length table.now }
     ensures { rows index.new ≡ placement_keys table.now m 0 }
 {
-    let mut i = 0;
-    while i < m {
+    for i in 0..m {
         let id = table[i * rules::PLACE];
         sorts::put3(index, i, id, i as u64, 0);
-        i += 1;
     }
 }
 

@@ -5,6 +5,7 @@ ghost use Rattle.sorts.specs.Rows.{rows};
 ghost use Rattle.indexes.specs.Marks.{Tells, marked, paired};
 
 // Flags row k in the n words from `to`, where x and y are one id.
+#[tactic(auto, using(crate::proofs::Marked::here))]
 fn mark(w: &mut [u64], to: usize, n: usize, x: u64, y: u64, k: u64)
     requires { to + n ≤ length w.old }
     ensures { w.new ≡ put w.old to n (marked x y k (part w.old to n)) }
@@ -26,14 +27,12 @@ fn mark_pairs(w: &mut [u64], at: usize, to: usize, n: usize)
     requires n_in_bounds { to + n ≤ length w.old }
     ensures { w.new ≡ put w.old to n (paired (rows (part w.old at (3 * n))) (part w.old to n)) }
 {
-    let mut p = 1;
-    while p < n {
+    for p in 1..n {
         let q = at + 3 * p;
         let x = w[q - 3];
         let y = w[q];
         let k = w[q + 1];
         mark(w, to, n, x, y, k);
-        p += 1;
     }
 }
 

@@ -1,16 +1,16 @@
 // One layout judged: the call, and its line.
 ghost use Rattle.std.specs.Prelude.{◌≤◌};
 
-use answers::Judged;
+use answers::Refusal;
 use shown::{SPARE, text, word};
 use std::io;
 use types::limits::DagLimits;
 
-fn judged(rt: &impl Print, label: &[u8], j: Judged) -> io::Result<()> {
+fn judged(rt: &impl Print, label: &[u8], j: Result<(), Refusal>) -> io::Result<()> {
     text(rt, label)?;
     match j {
-        Judged::Accepted => text(rt, b" accepted"),
-        Judged::Refused(r) => shown::refusal(rt, r),
+        Ok(()) => text(rt, b" accepted"),
+        Err(r) => shown::refusal(rt, r),
     }
 }
 

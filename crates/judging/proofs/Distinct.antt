@@ -9,13 +9,13 @@ use mathlib.Core.List.{List, [], ◌∷◌, ◌++◌, map}
 use borrow.Author.Tests.{eq-eqb}
 use lib.ListN.{length, get_or}
 use lib.Dec.{eqb}
-use Rattle.answers.specs.declared.Judged.TheVariants.{Accepted}
 use Rattle.answers.proofs.Judging.{or_left, then-left, then-right, when-not}
 use Rattle.lists.specs.Lists.{has, ◌∉◌}
 use Rattle.rules.specs.Model.{Segment, Placement, ids_of}
 use Rattle.rules.specs.Tables.{row_width, place_width, parents_at, children_at, segments_from, segments, placements_from, placements}
 use Rattle.rules.specs.Rows.{counted_rule, rows_from, rows_rule, places_from, placements_rule}
 use Rattle.words.specs.Twins.{NoTwins}
+use Rattle.answers.specs.Answer.{Accepted}
 
 -- none of the ids is among `seen` or the ids before it
 abbrev Fresh : List ℕ → List ℕ → Type 0

@@ -9,9 +9,7 @@ use mathlib.Core.Path.{◌≡◌}
 use mathlib.Core.List.{List, []}
 use lib.ListN.{length, get_or, take}
 use Rattle.answers.specs.declared.Refusal.{Refusal}
-use Rattle.answers.specs.declared.Judged.{Judged}
-use Rattle.answers.specs.declared.Judged.TheVariants.{Accepted, Refused}
-use Rattle.answers.specs.Answer.{when, refuse1, ◌then◌}
+use Rattle.answers.specs.Answer.{when, ◌then◌, Judged, Accepted, Refused}
 use Rattle.lists.specs.Lists.{has}
 use Rattle.words.specs.Table.{ids}
 use Rattle.words.specs.Twins.{Twins}
@@ -19,6 +17,7 @@ use Rattle.rules.specs.Tables.{row_width, parents_at, children_at, segment_at, s
 use Rattle.rules.specs.Rows.{row_rule, edge_count_rule, counted_rule, rows_from, rows_rule}
 use Rattle.rules.proofs.Places.{length-stretch}
 use Rattle.judging.proofs.Before.{ids_more, flag-hit, flag-miss}
+use Rattle.answers.specs.declared.Refusal.TheVariants.{DuplicateSegment}
 
 -- ---- the edges: those of the rows to come end where the table does
 
@@ -68,7 +67,7 @@ module _
       (flags : List ℕ)
       (twins : Twins (ids rows row_width n) flags) where
     rows-open : v ≡
-        (when (has (get_or rows (i * row_width) 0) (take i (ids rows row_width n))) (refuse1 8 (get_or rows (i * row_width) 0)) then
+        (when (has (get_or rows (i * row_width) 0) (take i (ids rows row_width n))) (Refused (DuplicateSegment (get_or rows (i * row_width) 0))) then
         row_rule layout (segment_at rows edges (i * row_width) place) then
         edge_count_rule limit (max (parents + parents_at rows (i * row_width)) (children + children_at rows (i * row_width)))) then
         rows_from layout limit (take (i + 1) (ids rows row_width n)) (parents + parents_at rows (i * row_width)) (children + children_at rows (i * row_width))
@@ -84,7 +83,7 @@ module _
           ids_more rows row_width n i below,
         )
 
-    pub rows-twin : (r : Judged) → (get_or flags i 0 ≡ 0 → ⊥) → r ≡ refuse1 8 (get_or rows (i * row_width) 0) → r ≡ v
+    pub rows-twin : (r : Judged) → (get_or flags i 0 ≡ 0 → ⊥) → r ≡ Refused (DuplicateSegment (get_or rows (i * row_width) 0)) → r ≡ v
     rows-twin r h e = rw (e, rows-open, flag-hit rows row_width n i below flags twins h)
 
     module _

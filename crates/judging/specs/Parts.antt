@@ -1,10 +1,10 @@
 -- The two parts of `head_rule`, of a row's head.
 -- Assumes nothing.
 use Rattle.std.specs.Prelude.{ℕ}
-use Rattle.answers.specs.declared.Judged.{Judged}
 use Rattle.types.specs.State.{state_of}
 use Rattle.rules.specs.Model.{Head}
 use Rattle.rules.specs.Rows.{descriptor_rule, lifecycle_rule, state_after}
+use Rattle.answers.specs.Answer.{Judged}
 
 -- 9 to 13
 abbrev pub head_descriptor : Head → Judged

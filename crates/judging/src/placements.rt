@@ -5,10 +5,10 @@ ghost use Rattle.words.specs.Twins.{Twins};
 ghost use Rattle.rules.specs.Tables.{place_width, placements};
 ghost use Rattle.rules.specs.Rows.{placements_rule};
 
-use answers::Judged;
+use answers::Refusal;
 
 // 6, 7: a flag says whether the id of its row came before.
-pub fn judge_placements(places: &[u64], m: usize, flags: &[u64]) -> Judged
+pub fn judge_placements(places: &[u64], m: usize, flags: &[u64]) -> Result<(), Refusal>
     requires place_width_in_bounds { m * place_width ≤ length places.now }
     requires twins { Twins (ids places.now place_width m) flags.now }
     ensures { result ≡ placements_rule (placements places.now m) }
@@ -18,12 +18,12 @@ pub fn judge_placements(places: &[u64], m: usize, flags: &[u64]) -> Judged
         let w = i * rules::PLACE;
         let id = places[w];
         if flags[i] != 0 {
-            return answers::refuse(6, id, 0, 0, 0);
+            return Err(Refusal::DuplicatePlacement { id });
         }
         if places[w + 1] == 0 {
-            return answers::refuse(7, id, 0, 0, 0);
+            return Err(Refusal::EmptyPlacementUrl { id });
         }
         i += 1;
     }
-    Judged::Accepted
+    Ok(())
 }

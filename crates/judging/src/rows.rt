@@ -8,15 +8,15 @@ ghost use Rattle.rules.specs.Tables.{row_width, head_width, head_at, parents_at,
 ghost use Rattle.rules.specs.Rows.{state_after, head_rule, lists_rule, row_rule, edge_count_rule, rows_rule};
 ghost use Rattle.judging.specs.Parts.{head_descriptor, head_lifecycle};
 
-use answers::Judged;
+use answers::Refusal;
 use segment::descriptor::judge_descriptor;
 use segment::lifecycle::judge_lifecycle;
 use segment::list::judge_list;
-use types::records::{Optional, SegmentId};
+use types::records::{Optional, SegmentId, Side};
 use types::state::{SegmentState, StateRead};
 
 // 9 to 13, for the row that begins at word w.
-fn judge_descriptor_at(rows: &[u64], w: usize) -> Judged
+fn judge_descriptor_at(rows: &[u64], w: usize) -> Result<(), Refusal>
     requires { w + head_width ≤ length rows.now }
     ensures { result ≡ head_descriptor (head_at rows.now w) }
 {
@@ -44,7 +44,7 @@ fn state_after(state: u64) -> SegmentState
 }
 
 // 14 to 18, with that many children.
-fn judge_lifecycle_at(layout: u64, rows: &[u64], w: usize, children: u64) -> Judged
+fn judge_lifecycle_at(layout: u64, rows: &[u64], w: usize, children: u64) -> Result<(), Refusal>
     requires { w + head_width ≤ length rows.now }
     ensures { result ≡ head_lifecycle layout (head_at rows.now w) children }
 {
@@ -64,42 +64,36 @@ fn judge_lifecycle_at(layout: u64, rows: &[u64], w: usize, children: u64) -> Jud
 }
 
 // 9 to 18.
-fn judge_head(layout: u64, rows: &[u64], w: usize, children: u64) -> Judged
+#[tactic(auto, unfolding(rules::specs::Rows::head_rule))]
+fn judge_head(layout: u64, rows: &[u64], w: usize, children: u64) -> Result<(), Refusal>
     requires { w + head_width ≤ length rows.now }
     ensures { result ≡ head_rule layout (head_at rows.now w) children }
 {
-    let judged = judge_descriptor_at(rows, w);
-    let Judged::Accepted = judged else {
-        return judged;
-    };
+    judge_descriptor_at(rows, w)?;
     judge_lifecycle_at(layout, rows, w, children)
 }
 
 // 19 to 21.
-fn judge_lists(id: SegmentId, parents: &[u64], children: &[u64]) -> Judged
+#[tactic(auto, unfolding(rules::specs::Rows::lists_rule))]
+fn judge_lists(id: SegmentId, parents: &[u64], children: &[u64]) -> Result<(), Refusal>
     ensures { result ≡ lists_rule id.0 parents.now children.now }
 {
-    let judged = judge_list(id, 20, parents);
-    let Judged::Accepted = judged else {
-        return judged;
-    };
-    judge_list(id, 21, children)
+    judge_list(id, Side::Parents, parents)?;
+    judge_list(id, Side::Children, children)
 }
 
 // 9 to 21, for the row that begins at word w and whose edges begin at `at`.
-fn judge_row(layout: u64, rows: &[u64], w: usize, edges: &[u64], at: usize) -> Judged
+#[tactic(auto, unfolding(rules::specs::Rows::row_rule))]
+fn judge_row(layout: u64, rows: &[u64], w: usize, edges: &[u64], at: usize) -> Result<(), Refusal>
     requires head_width_in_bounds { w + head_width ≤ length rows.now }
-    requires w_in_bounds { at + parents_at rows.now w + children_at rows.now w ≤ length edges.now }
+    requires edges_in_table { at + parents_at rows.now w + children_at rows.now w ≤ length edges.now }
     ensures { result ≡ row_rule layout (segment_at rows.now edges.now w at) }
 {
     let mid = at + rows[w + 9] as usize;
     let end = mid + rows[w + 10] as usize;
     let parents = &edges[at..mid];
     let children = &edges[mid..end];
-    let judged = judge_head(layout, rows, w, children.len() as u64);
-    let Judged::Accepted = judged else {
-        return judged;
-    };
+    judge_head(layout, rows, w, children.len() as u64)?;
     judge_lists(SegmentId(rows[w]), parents, children)
 }
 
@@ -110,14 +104,17 @@ fn larger(a: usize, b: usize) -> usize
 }
 
 // 22.
-fn judge_edge_count(limit: u64, parents: usize, children: usize) -> Judged
+fn judge_edge_count(limit: u64, parents: usize, children: usize) -> Result<(), Refusal>
     ensures { result ≡ edge_count_rule limit (max parents children) }
 {
     let total = larger(parents, children);
     if limit < total as u64 {
-        return answers::refuse(22, total as u64, limit, 0, 0);
+        return Err(Refusal::EdgeCount {
+            actual: total as u64,
+            max: limit,
+        });
     }
-    Judged::Accepted
+    Ok(())
 }
 
 // 9 to 22. `parents` and `children` are the totals with this row's edges.
@@ -130,15 +127,12 @@ fn judge_counted(
     at: usize,
     parents: usize,
     children: usize,
-) -> Judged
+) -> Result<(), Refusal>
     requires head_width_in_bounds { w + head_width ≤ length rows.now }
-    requires w_in_bounds { at + parents_at rows.now w + children_at rows.now w ≤ length edges.now }
+    requires edges_in_table { at + parents_at rows.now w + children_at rows.now w ≤ length edges.now }
     ensures { result ≡ row_rule layout (segment_at rows.now edges.now w at) then edge_count_rule limit (max parents children) }
 {
-    let judged = judge_row(layout, rows, w, edges, at);
-    let Judged::Accepted = judged else {
-        return judged;
-    };
+    judge_row(layout, rows, w, edges, at)?;
     judge_edge_count(limit, parents, children)
 }
 
@@ -150,9 +144,9 @@ pub fn judge_rows(
     n: usize,
     edges: &[u64],
     flags: &[u64],
-) -> Judged
+) -> Result<(), Refusal>
     requires row_width_in_bounds { n * row_width ≤ length rows.now }
-    requires n_value { edges_from row_width rows.now n 0 ≡ length edges.now }
+    requires counts_match { edges_from row_width rows.now n 0 ≡ length edges.now }
     requires twins { Twins (ids rows.now row_width n) flags.now }
     ensures { result ≡ rows_rule layout limit (segments rows.now edges.now n) }
 {
@@ -163,18 +157,15 @@ pub fn judge_rows(
     while i < n {
         let w = i * rules::ROW;
         if flags[i] != 0 {
-            return answers::refuse(8, rows[w], 0, 0, 0);
+            return Err(Refusal::DuplicateSegment { id: rows[w] });
         }
         let p = rows[w + 9] as usize;
         let c = rows[w + 10] as usize;
         parents += p;
         children += c;
-        let judged = judge_counted(layout, limit, rows, w, edges, at, parents, children);
-        let Judged::Accepted = judged else {
-            return judged;
-        };
+        judge_counted(layout, limit, rows, w, edges, at, parents, children)?;
         at = at + p + c;
         i += 1;
     }
-    Judged::Accepted
+    Ok(())
 }

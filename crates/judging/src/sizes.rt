@@ -2,21 +2,30 @@
 ghost use Rattle.std.specs.Prelude.{◌≡◌};
 ghost use Rattle.rules.specs.Rows.{size_rule};
 
-use answers::Judged;
+use answers::Refusal;
 use types::limits::DagLimits;
 
 // 3, 4, 5.
-pub fn judge_sizes(limits: DagLimits, size: u64, n: usize, p: usize) -> Judged
+pub fn judge_sizes(limits: DagLimits, size: u64, n: usize, p: usize) -> Result<(), Refusal>
     ensures { result ≡ size_rule limits size n p }
 {
     if limits.size < size {
-        return answers::refuse(3, size, limits.size, 0, 0);
+        return Err(Refusal::SerializedSize {
+            actual: size,
+            max: limits.size,
+        });
     }
     if limits.segments < n as u64 {
-        return answers::refuse(4, n as u64, limits.segments, 0, 0);
+        return Err(Refusal::SegmentCount {
+            actual: n as u64,
+            max: limits.segments,
+        });
     }
     if limits.segments < p as u64 {
-        return answers::refuse(5, p as u64, limits.segments, 0, 0);
+        return Err(Refusal::PlacementCount {
+            actual: p as u64,
+            max: limits.segments,
+        });
     }
-    Judged::Accepted
+    Ok(())
 }

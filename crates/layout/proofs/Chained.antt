@@ -7,9 +7,7 @@ use mathlib.Core.List.{List}
 use lib.ListN.{length, take}
 use Rattle.words.specs.Part.{part}
 use Rattle.answers.specs.declared.Refusal.{Refusal}
-use Rattle.answers.specs.declared.Judged.{Judged}
-use Rattle.answers.specs.declared.Judged.TheVariants.{Accepted, Refused}
-use Rattle.answers.specs.Answer.{refuse0}
+use Rattle.answers.specs.Answer.{Judged, Accepted, Refused}
 use Rattle.types.specs.declared.limits.DagLimits.{DagLimits}
 use Rattle.rules.specs.Model.{Segment, Placement}
 use Rattle.rules.specs.Tables.{held_width, segments}
@@ -20,6 +18,7 @@ use Rattle.incoming.specs.Incoming.{incoming_rule, Given}
 use Rattle.incoming.proofs.Chains.{layout_is, incoming-empty}
 use Rattle.incoming.proofs.Counts.{segments-count}
 use Rattle.layout.specs.Laid.{Fit, ImageOf, LaidOut, order_at, graph_chain}
+use Rattle.answers.specs.declared.Refusal.TheVariants.{NoActiveSegments}
 
 -- what was judged behind the image left it as it was
 pub laid_out : (w₁ w₂ : List ℕ) (n e depth : ℕ) (ss : List Segment) (ps : List Placement) → ImageOf w₁ n e ss ps
@@ -50,7 +49,7 @@ module _ (epoch size : ℕ) (limits : DagLimits) (ss : List Segment) (ps : List 
       let e : incoming_rule epoch size limits ss ps ≡ Refused r = sym said ∙ told in
       told ∙ sym (layout_is epoch size limits ss ps ∙ rw e refl)
 
-  pub refused-empty : (v : Judged) → x ≡ Accepted → length ss ≡ 0 → v ≡ refuse0 33 → v ≡ layout_rule epoch size limits ss ps
+  pub refused-empty : (v : Judged) → x ≡ Accepted → length ss ≡ 0 → v ≡ Refused NoActiveSegments → v ≡ layout_rule epoch size limits ss ps
   refused-empty v told none e =
       let a : incoming_rule epoch size limits ss ps ≡ Accepted = sym said ∙ told in
       e ∙ sym (incoming-empty epoch size limits ss ps none ∙ rw a refl)

@@ -12,10 +12,9 @@ use Rattle.rules.specs.Tables.{row_width, held_width, edges_from, segments, plac
 use Rattle.image.specs.Written.{Ready}
 use Rattle.image.proofs.Laid.{image-rows, image-edges, image-segments, image-laid}
 use Rattle.answers.specs.declared.Refusal.{Refusal}
-use Rattle.answers.specs.declared.Judged.{Judged}
-use Rattle.answers.specs.declared.Judged.TheVariants.{Accepted, Refused}
 use Rattle.layout.specs.Laid.{ImageOf}
 use Rattle.rules.specs.Judge.{areas_after}
+use Rattle.answers.specs.Answer.{Judged, Accepted, Refused}
 
 module _ (w₀ w table edges places : List ℕ) (n m : ℕ) (all : edges_from row_width table n 0 ≡ length edges) (once : NoTwins table row_width n)
     (ready : Ready w₀ table n places m (n * held_width + length edges) (n * held_width + length edges + 3 * n))

@@ -3,10 +3,10 @@
 use Prim.Native.Nat.{ℕ}
 use mathlib.Core.Path.{◌≡◌, sym, ◌∙◌}
 use mathlib.Core.List.{List}
-use Rattle.answers.specs.declared.Judged.{Judged}
 use Rattle.types.specs.declared.limits.DagLimits.{DagLimits}
 use Rattle.rules.specs.Judge.{Tables, Areas}
 use Rattle.layout.specs.Lent.{Owed}
+use Rattle.answers.specs.Answer.{Judged}
 
 pub owed-one : (epoch size : ℕ) (limits : DagLimits) (t : Tables) (work : List ℕ) (a : Areas) (v v' : Judged) (w w' h h' l l' o o' : List ℕ)
     → Owed epoch size limits t work a v w h l o → Owed epoch size limits t work a v' w' h' l' o'

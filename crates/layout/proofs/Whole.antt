@@ -7,9 +7,7 @@ use mathlib.Core.List.{List}
 use lib.ListN.{length, replicate}
 use Rattle.lists.specs.Lists.{front}
 use Rattle.words.specs.Part.{part}
-use Rattle.answers.specs.declared.Judged.{Judged}
-use Rattle.answers.specs.declared.Judged.TheVariants.{Accepted, Refused}
-use Rattle.answers.specs.Answer.{refuse0}
+use Rattle.answers.specs.Answer.{Judged, Accepted, Refused}
 use Rattle.types.specs.declared.limits.DagLimits.{DagLimits}
 use Rattle.rules.specs.Tables.{row_width, place_width, segments, placements}
 use Rattle.rules.specs.Shape.{bad_layout}
@@ -22,6 +20,7 @@ use Rattle.shape.proofs.Good.{layout-rows, layout-counts, layout-places}
 use Rattle.shape.proofs.Enough.{enough-to-judge}
 use Rattle.layout.specs.Laid.{LaidOut, Fit, order_at}
 use Rattle.layout.specs.Lent.{tables_of, areas_of, Owed}
+use Rattle.answers.specs.declared.Refusal.TheVariants.{BadTable, NoRoom}
 
 module _ (epoch size : ℕ) (limits : DagLimits) (rows edges places work held links order : List ℕ) (x : Bool) (said : x ≡ bad_layout rows edges places) where
   abbrev t : Tables
@@ -31,7 +30,7 @@ module _ (epoch size : ℕ) (limits : DagLimits) (rows edges places work held li
   a = areas_of held links order
 
   -- 1
-  pub bad : (v : Judged) → x ≡ true → v ≡ refuse0 1 → Owed epoch size limits t work a v work held links order
+  pub bad : (v : Judged) → x ≡ true → v ≡ Refused BadTable → Owed epoch size limits t work a v work held links order
   unfolding judgement past_room
   bad v is e =
       let told : bad_layout rows edges places ≡ true = sym said ∙ is in
@@ -39,7 +38,7 @@ module _ (epoch size : ℕ) (limits : DagLimits) (rows edges places work held li
 
   module _ (good : x ≡ false) (y : Bool) (asked : y ≡ no_room_to_judge (length work) (length held) (length links) (length order) (length rows / row_width) (length places / place_width) (length edges)) where
     -- 2
-    pub short : (v : Judged) → y ≡ true → v ≡ refuse0 2 → Owed epoch size limits t work a v work held links order
+    pub short : (v : Judged) → y ≡ true → v ≡ Refused NoRoom → Owed epoch size limits t work a v work held links order
     unfolding judgement past_room
     short v is e =
         let fine : bad_layout rows edges places ≡ false = sym said ∙ good in

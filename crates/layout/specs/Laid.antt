@@ -4,8 +4,7 @@ use Rattle.std.specs.Prelude.{ℕ, ◌+◌, ◌*◌, ◌≤◌, ◌≡◌, List,
 use Rattle.words.specs.Part.{part}
 use Rattle.rules.specs.Model.{Segment, Placement, by_id}
 use Rattle.rules.specs.Tables.{row_width, held_width, place_width, edges_from, held_rows, held_edges}
-use Rattle.answers.specs.declared.Judged.{Judged}
-use Rattle.answers.specs.Answer.{◌then◌}
+use Rattle.answers.specs.Answer.{◌then◌, Judged}
 use Rattle.rules.specs.Edges.{edges_rule}
 use Rattle.rules.specs.Order.{order_of, order_words, order_rule}
 use Rattle.rules.specs.Tiling.{transitions_rule, active_of, coverage_rule}

@@ -1,9 +1,9 @@
 -- The lent words of the judge, as the rule book's records.
 -- Assumes nothing.
 use Rattle.std.specs.Prelude.{ℕ, List, ◌≡◌, length}
-use Rattle.answers.specs.declared.Judged.{Judged}
 use Rattle.types.specs.declared.limits.DagLimits.{DagLimits}
 use Rattle.rules.specs.Judge.{Tables, Areas, judgement, filled, areas_after, work_after}
+use Rattle.answers.specs.Answer.{Judged}
 
 abbrev pub tables_of : List ℕ → List ℕ → List ℕ → Tables
 tables_of rows edges places = record { rows = rows; edges = edges; places = places }

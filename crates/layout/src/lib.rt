@@ -5,7 +5,7 @@
 ghost use Rattle.std.specs.Prelude.{◌≡◌, ◌+◌, ◌*◌, ◌≤◌, ◌<◌, length, replicate};
 ghost use Rattle.lists.specs.Lists.{front};
 ghost use Rattle.words.specs.Part.{part};
-ghost use Rattle.answers.specs.declared.Judged.TheVariants.{Accepted};
+ghost use Rattle.answers.specs.Answer.{Accepted};
 ghost use Rattle.words.specs.Twins.{NoTwins};
 ghost use Rattle.rules.specs.Tables.{row_width, held_width, default_limits, edges_from, segments, placements};
 ghost use Rattle.rules.specs.Judge.{areas_after};
@@ -15,12 +15,12 @@ ghost use Rattle.rules.specs.Layout.{layout_rule};
 ghost use Rattle.layout.specs.Laid.{Fit, ImageOf, LaidOut, order_at, graph_chain};
 ghost use Rattle.layout.specs.Lent.{tables_of, areas_of, Owed};
 
-use answers::Judged;
+use answers::Refusal;
 use types::limits::DagLimits;
 
 // The image of the layout, written over its indexes' front.
 fn lay_out(w: &mut [u64], rows: &[u64], n: usize, edges: &[u64], places: &[u64], m: usize)
-    requires n_value { edges_from row_width rows.now n 0 ≡ length edges.now }
+    requires counts_match { edges_from row_width rows.now n 0 ≡ length edges.now }
     requires no_twins { NoTwins rows.now row_width n }
     requires ready { Ready w.old rows.now n places.now m (n * held_width + length edges.now) (n * held_width + length edges.now + 3 * n) }
     ensures image_of { ImageOf w.new n (length edges.now) (segments rows.now edges.now n) (placements places.now m) }
@@ -39,8 +39,8 @@ fn judge_laid(
     places: &[u64],
     m: usize,
     depth: u64,
-) -> Judged
-    requires n_value { edges_from row_width rows.now n 0 ≡ length edges.now }
+) -> Result<(), Refusal>
+    requires counts_match { edges_from row_width rows.now n 0 ≡ length edges.now }
     requires no_twins { NoTwins rows.now row_width n }
     requires ready { Ready w.old rows.now n places.now m (n * held_width + length edges.now) (n * held_width + length edges.now + 3 * n) }
     requires n_nonzero { (0 < n) × (32 * (n + m + length edges.now) ≤ length w.old) }
@@ -63,19 +63,16 @@ pub fn judge_in(
     edges: &[u64],
     places: &[u64],
     m: usize,
-) -> Judged
+) -> Result<(), Refusal>
     requires { Fit rows.now n edges.now places.now m (length w.old) }
     ensures value { result ≡ layout_rule epoch size limits (segments rows.now edges.now n) (placements places.now m) }
     ensures laid_out { result ≡ Accepted → LaidOut w.new n (length edges.now) limits.depth (segments rows.now edges.now n) (placements places.now m) }
     ensures w_len_unchanged { length w.new ≡ length w.old }
 {
     let depth = limits.depth;
-    let incoming = incoming::judge_incoming(w, epoch, size, limits, rows, n, edges, places, m);
-    let Judged::Accepted = incoming else {
-        return incoming;
-    };
+    incoming::judge_incoming(w, epoch, size, limits, rows, n, edges, places, m)?;
     if n == 0 {
-        return answers::refuse(33, 0, 0, 0, 0);
+        return Err(Refusal::NoActiveSegments);
     }
     judge_laid(w, rows, n, edges, places, m, depth)
 }
@@ -98,14 +95,14 @@ pub fn store(w: &[u64], n: usize, e: usize, held: &mut [u64], links: &mut [u64],
 
 // What was judged in the work area is stored where it was accepted, and the work area is cleared.
 fn finish(
-    judged: Judged,
+    judged: Result<(), Refusal>,
     w: &mut [u64],
     n: usize,
     e: usize,
     held: &mut [u64],
     links: &mut [u64],
     order: &mut [u64],
-) -> Judged
+) -> Result<(), Refusal>
     requires n_in_bounds { judged ≡ Accepted → order_at n e + n ≤ length w.old }
     requires held_width_in_bounds { n * held_width ≤ length held.old }
     requires e_in_bounds { e ≤ length links.old }
@@ -116,13 +113,13 @@ fn finish(
     ensures links_after { links.new ≡ areas_after judged (front (image_edges w.old n e) links.old) links.old }
     ensures order_after { order.new ≡ areas_after judged (front (part w.old (order_at n e) n) order.old) order.old }
 {
-    let Judged::Accepted = judged else {
+    let Ok(()) = judged else {
         words::clear(w);
         return judged;
     };
     store(w, n, e, held, links, order);
     words::clear(w);
-    Judged::Accepted
+    Ok(())
 }
 
 // The judge. 1 and 2 leave every lent word as it was; past them the work area is cleared; only an accepted layout is stored.
@@ -137,11 +134,11 @@ pub fn judge_layout_with_limits(
     held: &mut [u64],
     links: &mut [u64],
     order: &mut [u64],
-) -> Judged
+) -> Result<(), Refusal>
     ensures { Owed epoch size limits (tables_of rows.now edges.now places.now) work.old (areas_of held.old links.old order.old) result work.new held.new links.new order.new }
 {
     if shape::tables::is_bad_layout(rows, edges, places) {
-        return answers::refuse(1, 0, 0, 0, 0);
+        return Err(Refusal::BadTable);
     }
     let n = rows.len() / rules::ROW;
     let m = places.len() / rules::PLACE;
@@ -154,7 +151,7 @@ pub fn judge_layout_with_limits(
         m,
         edges.len(),
     ) {
-        return answers::refuse(2, 0, 0, 0, 0);
+        return Err(Refusal::NoRoom);
     }
     let judged = judge_in(work, epoch, size, limits, rows, n, edges, places, m);
     finish(judged, work, n, edges.len(), held, links, order)
@@ -171,7 +168,7 @@ pub fn judge_layout(
     held: &mut [u64],
     links: &mut [u64],
     order: &mut [u64],
-) -> Judged
+) -> Result<(), Refusal>
     ensures { Owed epoch size default_limits (tables_of rows.now edges.now places.now) work.old (areas_of held.old links.old order.old) result work.new held.new links.new order.new }
 {
     judge_layout_with_limits(

@@ -12,13 +12,9 @@ use lib.Dec.{leb}
 use Rattle.lists.specs.Lists.{has}
 use Rattle.lists.specs.Sort.{sorted}
 use Rattle.lists.proofs.Tests.{has-sorted}
-use Rattle.words.specs.Table.{ids, where_is}
-use Rattle.words.specs.declared.Found.{Found}
-use Rattle.words.specs.declared.Found.TheVariants.{At, Nothing}
+use Rattle.words.specs.Table.{ids, where_is, Found, At, Nothing}
 use Rattle.words.proofs.TableLaws.{length_ids, ids_at, has-hit}
-use Rattle.answers.specs.declared.Judged.{Judged}
-use Rattle.answers.specs.declared.Judged.TheVariants.{Accepted}
-use Rattle.answers.specs.Answer.{when, refuse1, ◌then◌}
+use Rattle.answers.specs.Answer.{when, ◌then◌, Judged, Accepted, Refused}
 use Rattle.sorts.specs.Rows.{rows}
 use Rattle.rules.specs.Model.{ids_of}
 use Rattle.rules.specs.Tables.{row_width, segments, placements}
@@ -26,6 +22,7 @@ use Rattle.rules.specs.Rows.{dangling_from, dangling_rule, placed_ids}
 use Rattle.rules.proofs.TableIds.{segment-ids, placement-ids}
 use Rattle.indexes.specs.Index.{segment_index, placement_index}
 use Rattle.indexes.proofs.IndexIds.{rows-ids, places-ids}
+use Rattle.answers.specs.declared.Refusal.TheVariants.{DanglingPlacement}
 
 -- ---- a search
 
@@ -44,7 +41,7 @@ module _ (known l : List ℕ) (i : ℕ) (rest : dangling_from known l ≡ dangli
   dangling-end h = rw (rest, drop_of_length-le l {i = i} h) refl
 
   module _ (below : i < length l) (b : Bool) (said : b ≡ not (has (get_or l i 0) known)) where
-    pub dangling-hit : b ≡ true → refuse1 23 (get_or l i 0) ≡ dangling_from known l
+    pub dangling-hit : b ≡ true → Refused (DanglingPlacement (get_or l i 0)) ≡ dangling_from known l
     unfolding dangling_from
     dangling-hit told = rw (rest, drop-cons l i 0 below, ← said, told) refl
 
@@ -61,9 +58,9 @@ module _ (known t : List ℕ) (m i : ℕ) (rest : dangling_from known (ids t 3 m
     same : b ≡ not (has (get_or (ids t 3 m) i 0) known)
     same = said ∙ ap (λ (x : ℕ). not (has x known)) (sym (ids_at t 3 m i below))
 
-    pub dangling-hit-ids : b ≡ true → (r : Judged) → r ≡ refuse1 23 (get_or t (i * 3) 0) → r ≡ dangling_from known (ids t 3 m)
+    pub dangling-hit-ids : b ≡ true → (r : Judged) → r ≡ Refused (DanglingPlacement (get_or t (i * 3) 0)) → r ≡ dangling_from known (ids t 3 m)
     dangling-hit-ids told r e =
-        e ∙ ap (refuse1 23) (sym (ids_at t 3 m i below)) ∙ dangling-hit known (ids t 3 m) i rest (omega (arith, length_ids t 3 m)) b same told
+        e ∙ ap (λ (x : ℕ). Refused (DanglingPlacement x)) (sym (ids_at t 3 m i below)) ∙ dangling-hit known (ids t 3 m) i rest (omega (arith, length_ids t 3 m)) b same told
 
     pub dangling-next-ids : b ≡ false → dangling_from known (ids t 3 m) ≡ dangling_from known (drop (i + 1) (ids t 3 m))
     dangling-next-ids told = dangling-next known (ids t 3 m) i rest (omega (arith, length_ids t 3 m)) b same told
@@ -79,7 +76,7 @@ has-index index table edges n x size is =
 dangling-same : (k l : List ℕ) → ((x : ℕ) → has x k ≡ has x l) → (xs : List ℕ) → dangling_from k xs ≡ dangling_from l xs
 unfolding dangling_from
 dangling-same k l h [] = refl
-dangling-same k l h (x ∷ xs) = λ j. (when (not (h x j)) (refuse1 23 x) then dangling-same k l h xs j)
+dangling-same k l h (x ∷ xs) = λ j. (when (not (h x j)) (Refused (DanglingPlacement x)) then dangling-same k l h xs j)
 
 -- 23, from the words of the two indexes to the model
 pub dangling-is : (index table edges pindex places : List ℕ) (n m : ℕ) → length index ≡ 3 * n → rows index ≡ segment_index table n

@@ -4,8 +4,7 @@ ghost use Rattle.lists.specs.Lists.{has};
 ghost use Rattle.words.specs.Table.{ids, Ascends};
 ghost use Rattle.rules.specs.Rows.{dangling_from};
 
-use answers::Judged;
-use words::Found;
+use answers::Refusal;
 
 // Has no row of the index that id?
 pub fn lacks_id(index: &[u64], n: usize, id: u64) -> bool
@@ -14,25 +13,23 @@ pub fn lacks_id(index: &[u64], n: usize, id: u64) -> bool
     ensures { result ≡ not (has id (ids index.now 3 n)) }
 {
     match words::find_row(index, 3, n, id) {
-        Found::At(_) => false,
-        Found::Nothing => true,
+        Some(_) => false,
+        None => true,
     }
 }
 
 // 23: the first id of the index of placements that the index of segments lacks.
-pub fn judge_dangling(index: &[u64], n: usize, pindex: &[u64], m: usize) -> Judged
+pub fn judge_dangling(index: &[u64], n: usize, pindex: &[u64], m: usize) -> Result<(), Refusal>
     requires n_in_bounds { n * 3 ≤ length index.now }
     requires ascends { Ascends (ids index.now 3 n) }
     requires m_in_bounds { m * 3 ≤ length pindex.now }
     ensures { result ≡ dangling_from (ids index.now 3 n) (ids pindex.now 3 m) }
 {
-    let mut p = 0;
-    while p < m {
+    for p in 0..m {
         let id = pindex[p * 3];
         if lacks_id(index, n, id) {
-            return answers::refuse(23, id, 0, 0, 0);
+            return Err(Refusal::DanglingPlacement { id });
         }
-        p += 1;
     }
-    Judged::Accepted
+    Ok(())
 }

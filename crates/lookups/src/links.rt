@@ -10,13 +10,10 @@ fn push_pairs(pairs: &mut [u64], k: usize, id: u64, list: &[u64]) -> usize
     ensures value { result ≡ k + length list.now }
     ensures pairs_after { take (k + length list.now) (rows pairs.new) ≡ take k (rows pairs.old) ++ map (pair_of id) list.now }
 {
-    let mut j = 0;
-    while j < list.len() {
-        let item = list[j];
+    for (j, &item) in list.iter().enumerate() {
         sorts::put3(pairs, k + j, id, item, 0);
-        j += 1;
     }
-    k + j
+    k + list.len()
 }
 
 // The pairs of the row that begins at word w and whose edges begin at `at`, from row k of the pairs on; the row after them.
@@ -30,17 +27,17 @@ fn push_row(
     at: usize,
 ) -> usize
     requires head_width_in_bounds { w + head_width ≤ length table.now }
-    requires w_in_bounds { at + parents_at table.now w + children_at table.now w ≤ length edges.now }
+    requires edges_in_table { at + parents_at table.now w + children_at table.now w ≤ length edges.now }
     requires at_in_bounds { 3 * (k + length (side parents (segment_at table.now edges.now w at))) ≤ length pairs.old }
     ensures value { result ≡ k + length (side parents (segment_at table.now edges.now w at)) }
     ensures pairs_after { take result (rows pairs.new) ≡ take k (rows pairs.old) ++ map (pair_of (get_or table.now w 0)) (side parents (segment_at table.now edges.now w at)) }
 {
     let id = table[w];
-    let middle = at + table[w + 9] as usize;
+    let middle = at + table[w + rules::PARENTS] as usize;
     if parents {
         return push_pairs(pairs, k, id, &edges[at..middle]);
     }
-    let end = middle + table[w + 10] as usize;
+    let end = middle + table[w + rules::CHILDREN] as usize;
     push_pairs(pairs, k, id, &edges[middle..end])
 }
 
@@ -55,18 +52,16 @@ fn fill_pairs(
 )
     requires head_width_le_width { head_width ≤ width }
     requires width_in_bounds { n * width ≤ length table.now }
-    requires n_value { edges_from width table.now n 0 ≡ length edges.now }
+    requires counts_match { edges_from width table.now n 0 ≡ length edges.now }
     requires pairs_len { length pairs.old ≡ 3 * length (pairs_of (side parents) (segments_from width table.now edges.now n 0 0)) }
     ensures { rows pairs.new ≡ pairs_of (side parents) (segments_from width table.now edges.now n 0 0) }
 {
-    let mut i = 0;
     let mut at = 0;
     let mut k = 0;
-    while i < n {
+    for i in 0..n {
         let w = i * width;
         k = push_row(pairs, k, parents, table, w, edges, at);
-        at = at + table[w + 9] as usize + table[w + 10] as usize;
-        i += 1;
+        at = at + table[w + rules::PARENTS] as usize + table[w + rules::CHILDREN] as usize;
     }
 }
 
@@ -74,18 +69,16 @@ fn fill_pairs(
 pub fn count_pairs(parents: bool, table: &[u64], width: usize, n: usize, total: usize) -> usize
     requires head_width_le_width { head_width ≤ width }
     requires width_in_bounds { n * width ≤ length table.now }
-    requires n_value { edges_from width table.now n 0 ≡ total }
+    requires counts_match { edges_from width table.now n 0 ≡ total }
     ensures { result ≡ sides_from parents width table.now n 0 }
 {
-    let mut i = 0;
     let mut k = 0;
-    while i < n {
+    for i in 0..n {
         let w = i * width;
-        i += 1;
         if parents {
-            k += table[w + 9] as usize;
+            k += table[w + rules::PARENTS] as usize;
         } else {
-            k += table[w + 10] as usize;
+            k += table[w + rules::CHILDREN] as usize;
         }
     }
     k
@@ -103,8 +96,8 @@ pub fn index_pairs(
 )
     requires head_width_le_width { head_width ≤ width }
     requires width_in_bounds { n * width ≤ length table.now }
-    requires n_value { edges_from width table.now n 0 ≡ length edges.now }
-    requires n_value_2 { sides_from parents width table.now n 0 ≡ k }
+    requires counts_match { edges_from width table.now n 0 ≡ length edges.now }
+    requires pairs_counted { sides_from parents width table.now n 0 ≡ k }
     requires pairs_len { length pairs.old ≡ 3 * k }
     ensures { rows pairs.new ≡ pair_index parents width table.now edges.now n }
 {

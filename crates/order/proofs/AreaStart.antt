@@ -11,8 +11,8 @@ use Prim.Native.Nat.{ℕ, ◌+◌, ◌-◌, ◌*◌, ◌<◌, ◌≤◌}
 use native.Mathlib.Omega.{arith}
 use lib.Dec.{eqb}
 use lib.ListN.{length, get_or, set, take, drop, replicate}
-use Rattle.words.specs.Part.{part, put}
-use Rattle.words.proofs.PartLaws.{part_length, part_at, part-put, part-before, drop-after}
+use Rattle.words.specs.Part.{part}
+use Rattle.words.proofs.PartLaws.{part_at}
 use Rattle.tree.specs.Tree.{Tree, Low}
 use Rattle.order.specs.declared.Order.{Order}
 use Rattle.order.specs.Graph.{start, judge, run, tab, parents}
@@ -22,16 +22,6 @@ use Rattle.order.proofs.TabLaws.{tab-all}
 use Rattle.order.proofs.StartLaws.{begun, begun-slots, begun-zero, slots-more}
 use Rattle.order.proofs.StoreLaws.{kept_at, drop-further}
 use Rattle.order.proofs.AreaLoop.{laid_kept, off-kept, edges-kept}
-
--- the depths' part is back as zeros
-pub dep-back : (n : ℕ) (w ys : List ℕ) → 4 * n ≤ length w → length ys ≡ length (part w n (2 * n - n)) → ys ≡ replicate (length (part w n (2 * n - n))) 0
-    → (part (put w n (2 * n - n) ys) n n ≡ replicate n 0) × (part (put w n (2 * n - n) ys) 0 n ≡ part w 0 n) × (drop (2 * n) (put w n (2 * n - n) ys) ≡ drop (2 * n) w)
-dep-back n w ys l ly e =
-    let half : 2 * n - n ≡ n = omega arith in
-    let l₂ : n + n ≤ length w = omega arith in
-    let k : length (part w n (2 * n - n)) ≡ n = rw half (part_length w n n l₂) in
-    let ly₂ : length ys ≡ n = ly ∙ k in
-    rw half (part-put w n n ys ly₂ l₂ ∙ e ∙ ap (λ (j : ℕ). replicate j 0) k, part-before w n n ys ly₂ l₂ 0 n (omega arith), drop-after w n n ys ly₂ l₂ (2 * n) (omega arith))
 
 -- what is stored as node i's degree
 module _ (n m i : ℕ) (w₀ w : List ℕ) (la : Laid n m w₀) (h : i < n) (e : drop n w ≡ drop n w₀) where

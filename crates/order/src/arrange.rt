@@ -15,8 +15,7 @@ fn arrange(m: usize, lim: u64, n: usize, w: &mut [u64]) -> Order
     requires { Laid n m w.old × Tree n (tree_in n w.old) × Low n (drop n (tree_in n w.old)) × Low 0 (part w.old n n) }
     ensures { Told (run n (off_in n w.old) (edges_in n m w.old) lim n [] (view n w.old)) result (order_in n w.new) × (drop (5 * n) w.new ≡ drop (5 * n) w.old) }
 {
-    let mut k = 0;
-    while k < n {
+    for k in 0..n {
         let x = first_ready(n, w);
         let i = index(x);
         if n <= i {
@@ -27,7 +26,6 @@ fn arrange(m: usize, lim: u64, n: usize, w: &mut [u64]) -> Order
             return Order::Depth(e);
         }
         w[4 * n + k] = x;
-        k += 1;
     }
     Order::Whole
 }

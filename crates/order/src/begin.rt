@@ -13,11 +13,9 @@ pub fn begin_deg(m: usize, n: usize, w: &mut [u64])
     requires { Laid n m w.old }
     ensures { (part w.new 0 n ≡ tab (λ i. length (parents (off_in n w.old) (edges_in n m w.old) i)) n) × (drop n w.new ≡ drop n w.old) }
 {
-    let mut i = 0;
-    while i < n {
+    for i in 0..n {
         let g = 5 * n + 2 * i;
         w[i] = w[g + 1] - w[g];
-        i += 1;
     }
 }
 
@@ -43,9 +41,7 @@ pub fn begin_slots(n: usize, w: &mut [u64])
     ensures { (drop n (tree_in n w.new) ≡ tab (λ i. cond (eqb (get_or (part w.old 0 n) i 0) 0) i n) n) × Tree n (tree_in n w.new) × Beside n w.old w.new }
 {
     clear_slots(n, w);
-    let mut i = 0;
-    while i < n {
+    for i in 0..n {
         set_slot(i, slot(w[i], i, n), n, w);
-        i += 1;
     }
 }

@@ -8,14 +8,14 @@ pub mod slots;
 pub mod taking;
 
 // How the visit of a node's children ended: all were visited, or one is too deep.
-#[derive(Clone, Copy)]
+#[derive(Clone, Copy, PartialEq, Eq, Debug)]
 pub enum Visit {
     Done,
     Deep(u64),
 }
 
 // How the order of a graph's nodes came out.
-#[derive(Clone, Copy)]
+#[derive(Clone, Copy, PartialEq, Eq, Debug)]
 pub enum Order {
     Whole,
     Depth(u64),

@@ -9,19 +9,6 @@ ghost use Rattle.order.specs.Area.{view, tree_in, off_in, edges_in, Laid};
 use crate::Visit;
 use crate::slots::set_slot;
 
-// One less, and 0 at 0.
-fn less_one(a: u64) -> u64
-    ensures { result ≡ a - 1 }
-{
-    if a == 0 { 0 } else { a - 1 }
-}
-
-fn larger(a: u64, b: u64) -> u64
-    ensures { result ≡ max a b }
-{
-    if a < b { b } else { a }
-}
-
 // A word as a place.
 pub fn index(x: u64) -> usize
     ensures { result ≡ x }
@@ -35,7 +22,7 @@ fn reach(c: usize, e: u64, n: usize, w: &mut [u64])
     ensures { (view n w.new ≡ touch c e (view n w.old)) × Tree n (tree_in n w.new) × (drop (4 * n) w.new ≡ drop (4 * n) w.old) }
 {
     w[n + c] = e;
-    let g = less_one(w[c]);
+    let g = w[c].saturating_sub(1);
     w[c] = g;
     if g == 0 {
         set_slot(c, c as u64, n, w);
@@ -48,15 +35,13 @@ fn visit_all(from: usize, to: usize, d: u64, lim: u64, n: usize, w: &mut [u64]) 
     requires by_index { (j : ℕ) → from ≤ j → j < to → get_or w.old j 0 < n }
     ensures { (visit_all d lim (slice from to w.old) (view n w.old) ≡ seen result (view n w.new)) × Tree n (tree_in n w.new) × (drop (4 * n) w.new ≡ drop (4 * n) w.old) }
 {
-    let mut j = from;
-    while j < to {
+    for j in from..to {
         let c = index(w[j]);
-        let e = larger(w[n + c], d + 1);
+        let e = w[n + c].max(d + 1);
         if lim < e {
             return Visit::Deep(e);
         }
         reach(c, e, n, w);
-        j += 1;
     }
     Visit::Done
 }

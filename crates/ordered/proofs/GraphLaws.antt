@@ -18,8 +18,7 @@ use Rattle.rules.specs.Model.{Segment, ids_of}
 use Rattle.rules.specs.Order.{node_of, order_from}
 use Rattle.rules.specs.Tables.{children_at, held_segments, held_width, parents_at, start_of}
 use Rattle.tabled.specs.Image.{Tabled, segment_in}
-use Rattle.words.specs.Table.{ids, where_is}
-use Rattle.words.specs.declared.Found.TheVariants.{At}
+use Rattle.words.specs.Table.{ids, where_is, At}
 use Rattle.ordered.proofs.Alike.{judge-alike}
 use Rattle.ordered.proofs.MapLaws.{map_at, map-slice, slice-stretch}
 use Rattle.ordered.proofs.NodeLaws.{bare}

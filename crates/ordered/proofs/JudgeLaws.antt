@@ -11,8 +11,7 @@ use native.Mathlib.Nat.{le_refl}
 use native.Mathlib.Omega.{arith}
 use lib.ListN.{get_or, length, length-map, take}
 use lib.Seq.{get_or-take}
-use Rattle.answers.specs.Answer.{refuse0, refuse2}
-use Rattle.answers.specs.declared.Judged.TheVariants.{Accepted}
+use Rattle.answers.specs.Answer.{Accepted, Refused}
 use Rattle.order.specs.Area.{Laid, Told, edges_in, off_in, order_in}
 use Rattle.order.specs.Graph.{Graph, Nodes, judge, start}
 use Rattle.order.specs.declared.Order.{Order}
@@ -30,6 +29,7 @@ use Rattle.ordered.proofs.MapLaws.{map_same}
 use Rattle.tabled.proofs.ByRow.{ids-segments}
 use Rattle.words.proofs.PartLaws.{Loan, length-put, loan, part-as, part_at, part-before, part_in, part_length, part-put, take-before}
 use Rattle.words.proofs.TableLaws.{ids_at}
+use Rattle.answers.specs.declared.Refusal.TheVariants as R
 
 -- ---- the scratch lent as `&mut w[at..end]`
 
@@ -168,12 +168,12 @@ module _ (w : List ℕ) (n e at : ℕ) (im : Image w n e) (front : n * held_widt
     by-id = order-of (image_rows w n) (image_edges w n e) n im.tabled (λ k h. closed k (omega (arith, edges-size))) lim
 
     pub judged-depth : (d : ℕ) (ws : List ℕ) → judge n off nodes lim ≡ too_deep d
-        → (refuse2 28 d lim ≡ ordered_rule lim (order_from lim n [] (map node_of (image_segments w n e)))) × OrderLeft (order_from lim n [] (map node_of (image_segments w n e))) ws
+        → (Refused (R.Depth d lim) ≡ ordered_rule lim (order_from lim n [] (map node_of (image_segments w n e)))) × OrderLeft (order_from lim n [] (map node_of (image_segments w n e))) ws
     unfolding ordered_rule
     judged-depth d ws j = rw (by-id, j) (refl, tt)
 
     pub judged-cyclic : (ws : List ℕ) → judge n off nodes lim ≡ cyclic
-        → (refuse0 29 ≡ ordered_rule lim (order_from lim n [] (map node_of (image_segments w n e)))) × OrderLeft (order_from lim n [] (map node_of (image_segments w n e))) ws
+        → (Refused R.Cycle ≡ ordered_rule lim (order_from lim n [] (map node_of (image_segments w n e)))) × OrderLeft (order_from lim n [] (map node_of (image_segments w n e))) ws
     unfolding ordered_rule
     judged-cyclic ws j = rw (by-id, j) (refl, tt)
 

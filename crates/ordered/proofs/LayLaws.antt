@@ -14,9 +14,7 @@ use Rattle.ordered.specs.Numbers.{node_named, offsets, offsets_at, offsets_below
 use Rattle.rules.specs.Tables.{held_width, parents_at, start_of}
 use Rattle.tabled.specs.Image.{image_rows}
 use Rattle.words.specs.Part.{part, put}
-use Rattle.words.specs.Table.{ids, where_is}
-use Rattle.words.specs.declared.Found.{Found}
-use Rattle.words.specs.declared.Found.TheVariants.{At, Nothing}
+use Rattle.words.specs.Table.{ids, where_is, Found, At, Nothing}
 use Rattle.ordered.proofs.GraphLaws.{length-below}
 use Rattle.words.proofs.PartLaws.{get_after, get-before, part-as, part-before, put-grow, put-none}
 

@@ -1,8 +1,7 @@
 -- What the order of an image asks, and what it leaves.
 -- Assumes nothing.
 use Rattle.std.specs.Prelude.{◌≡◌, List, map, ℕ, ◌<◌, get_or}
-use Rattle.words.specs.Table.{ids, where_is}
-use Rattle.words.specs.declared.Found.TheVariants.{At}
+use Rattle.words.specs.Table.{ids, where_is, At}
 use Rattle.rules.specs.Tables.{held_width}
 use Rattle.rules.specs.Order.{Ordered, in_order, too_deep, cyclic}
 use Rattle.tabled.specs.Image.{image_rows, image_edges}

@@ -1,9 +1,7 @@
 -- The graph of a table of n held rows with its edges: node i is row i, and an edge word becomes the number of the row that has that id.
 -- Assumes nothing.
 use Rattle.std.specs.Prelude.{List, [], ◌∷◌, ◌++◌, map, ℕ, zero, suc, ◌+◌, ◌*◌, get_or}
-use Rattle.words.specs.Table.{ids, where_is}
-use Rattle.words.specs.declared.Found.{Found}
-use Rattle.words.specs.declared.Found.TheVariants.{At, Nothing}
+use Rattle.words.specs.Table.{ids, where_is, Found, At, Nothing}
 use Rattle.rules.specs.Tables.{held_width, parents_at, start_of}
 
 -- where the parents of row i begin, and where its children begin

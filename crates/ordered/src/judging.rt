@@ -10,7 +10,7 @@ ghost use Rattle.ordered.specs.Left.{Closed, OrderLeft};
 ghost use Rattle.ordered.specs.Numbers.{offsets, node_edges};
 
 use crate::translate::{lay_edges, lay_ids, lay_offsets};
-use answers::{Judged, refuse};
+use answers::Refusal;
 use order::Order;
 use order::arrange::order_in;
 
@@ -34,7 +34,7 @@ fn order_nodes(w: &mut [u64], n: usize, e: usize, at: usize, limit: u64) -> Orde
 }
 
 // 28, 29; where neither, the ids in order are left in the n words from at + 4n on. The words before `at` stay.
-pub fn judge_order(w: &mut [u64], n: usize, e: usize, at: usize, limit: u64) -> Judged
+pub fn judge_order(w: &mut [u64], n: usize, e: usize, at: usize, limit: u64) -> Result<(), Refusal>
     requires { Image w.old n e × (n * held_width + e ≤ at) × (at + (7 * n + 1 + e) ≤ length w.old) × Closed w.old n e }
     ensures value { result ≡ ordered_rule limit (order_from limit n [] (map node_of (image_segments w.old n e))) }
     ensures w_unchanged { take at w.new ≡ take at w.old }
@@ -44,9 +44,12 @@ pub fn judge_order(w: &mut [u64], n: usize, e: usize, at: usize, limit: u64) -> 
     match order {
         Order::Whole => {
             lay_ids(w, n, at);
-            Judged::Accepted
+            Ok(())
         }
-        Order::Depth(depth) => refuse(28, depth, limit, 0, 0),
-        Order::Cycle => refuse(29, 0, 0, 0, 0),
+        Order::Depth(depth) => Err(Refusal::Depth {
+            actual: depth,
+            max: limit,
+        }),
+        Order::Cycle => Err(Refusal::Cycle),
     }
 }

@@ -10,7 +10,7 @@ ghost use Rattle.order.specs.Graph.{Nodes};
 ghost use Rattle.ordered.specs.Numbers.{offsets, node_named, node_edges, id_in};
 
 use order::taking::index;
-use words::{Found, find_row};
+use words::find_row;
 
 // Where the parents and the children of each row begin among the edges.
 pub fn lay_offsets(w: &mut [u64], n: usize, e: usize, at: usize)
@@ -40,8 +40,8 @@ fn row_of(w: &[u64], n: usize, id: u64) -> u64
     let a = n * rules::HELD;
     let found = find_row(&w[0..a], rules::HELD, n, id);
     match found {
-        Found::At(r) => r as u64,
-        Found::Nothing => 0,
+        Some(r) => r as u64,
+        None => 0,
     }
 }
 

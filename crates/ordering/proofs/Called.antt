@@ -12,6 +12,7 @@ use lib.ListN.{length, take, drop, replicate}
 use lib.Seq.{length-take-le}
 use Rattle.answers.specs.declared.Ordering.{Ordering}
 use Rattle.answers.specs.declared.Refusal.{Refusal}
+use Rattle.answers.specs.declared.Refusal.TheVariants.{BadTable, NoRoom}
 use Rattle.types.specs.declared.records.OrderingMode.{OrderingMode}
 use Rattle.rules.specs.Tables.{held_width, held_segments}
 use Rattle.rules.specs.Shape.{bad_held}
@@ -25,12 +26,12 @@ use Rattle.query.specs.Told.{Replied, Room}
 
 module _ (rows edges : List ℕ) (h g : ℕ) (mode : OrderingMode) (id : ℕ) (history completed : List ℕ) (lent : Lent) where
   module _ (x : Bool) (said : x ≡ bad_held rows edges h g) where
-    pub query-bad : x ≡ true → query rows edges h g mode id history completed lent ≡ refused_at (record { number = 1; a = 0; b = 0; c = 0; d = 0 })
+    pub query-bad : x ≡ true → query rows edges h g mode id history completed lent ≡ refused_at BadTable
     unfolding query query_rule
     query-bad told = rw (← said, told) refl
 
     module _ (told : x ≡ false) (y : Bool) (room : y ≡ no_room_to_order lent.work (length lent.first) (length lent.second) h g) where
-      pub query-short : y ≡ true → query rows edges h g mode id history completed lent ≡ refused_at (record { number = 2; a = 0; b = 0; c = 0; d = 0 })
+      pub query-short : y ≡ true → query rows edges h g mode id history completed lent ≡ refused_at NoRoom
       unfolding query query_rule
       query-short none = rw (← said, told, ← room, none) refl
 

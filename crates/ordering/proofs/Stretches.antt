@@ -10,12 +10,9 @@ use mathlib.Core.Bool.{Bool, true, false, cond}
 use mathlib.Core.Option.{Option, some}
 use mathlib.Core.List.{List, []}
 use lib.ListN.{length}
-use Rattle.words.specs.Table.{ids, where_is}
-use Rattle.words.specs.declared.Found.{Found}
-use Rattle.words.specs.declared.Found.TheVariants.{At, Nothing}
+use Rattle.words.specs.Table.{ids, where_is, Found, At, Nothing}
 use Rattle.words.proofs.TableLaws.{row-found}
-use Rattle.answers.specs.declared.Judged.TheVariants.{Accepted}
-use Rattle.answers.specs.Answer.{refuse0, refuse1}
+use Rattle.answers.specs.Answer.{Accepted, Refused}
 use Rattle.rules.specs.Model.{Segment, lookup}
 use Rattle.rules.specs.Tables.{held_width, held_segments, start_of, stretch, parents_at, children_at}
 use Rattle.rules.specs.Shape.{bad_held}
@@ -26,6 +23,7 @@ use Rattle.tabled.proofs.ByRow.{lookup-found}
 use Rattle.shape.proofs.Good.{held-fit, held-edges-fit, held-counts}
 use Rattle.ordering.specs.Rows.{known_row, Fit}
 use Rattle.ordering.proofs.Found.{rule-known, rule-unknown}
+use Rattle.answers.specs.declared.Refusal.TheVariants.{BadTable, UnknownSegment}
 
 module _ (rows edges : List ℕ) (h g : ℕ) where
   module _ (r : ℕ) (f : Fit rows edges h g r) where
@@ -67,7 +65,7 @@ module _ (rows edges : List ℕ) (h g : ℕ) where
           edges_fit = held-edges-fit rows edges h g (bad_held rows edges h g) refl k.0;
         }
 
-    refused : bad_held rows edges h g ≡ true → refuse0 1 ≡ known_rule rows edges h g id
+    refused : bad_held rows edges h g ≡ true → Refused BadTable ≡ known_rule rows edges h g id
     unfolding known_rule
     refused s = rw s refl
 
@@ -86,4 +84,4 @@ module _ (rows edges : List ℕ) (h g : ℕ) where
         where
           go : (b : Bool) → bad_held rows edges h g ≡ b → cond b Nothing (where_is (ids rows held_width h) id) ≡ Nothing → [] ≡ where_good (known_rule rows edges h g id) (pick (lookup id (held_segments rows edges h)))
           go true s k = rw (← refused s) refl
-          go false s k = rw (← rule-unknown rows edges h id (where_is (ids rows held_width h) id) refl g (bad_held rows edges h g) (refuse1 50 id) refl s k refl) refl
+          go false s k = rw (← rule-unknown rows edges h id (where_is (ids rows held_width h) id) refl g (bad_held rows edges h g) (Refused (UnknownSegment id)) refl s k refl) refl

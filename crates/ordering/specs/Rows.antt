@@ -1,9 +1,7 @@
 -- What held tables say of an id by its row.
 -- Assumes nothing.
 use Rattle.std.specs.Prelude.{ℕ, ◌*◌, ◌<◌, ◌≤◌, ◌≡◌, cond, List, length}
-use Rattle.words.specs.Table.{ids, where_is}
-use Rattle.words.specs.declared.Found.{Found}
-use Rattle.words.specs.declared.Found.TheVariants.{Nothing}
+use Rattle.words.specs.Table.{ids, where_is, Found, Nothing}
 use Rattle.rules.specs.Tables.{held_width, edges_from}
 use Rattle.rules.specs.Shape.{bad_held}
 

@@ -5,14 +5,13 @@ ghost use Rattle.tabled.specs.Image.{segment_in};
 ghost use Rattle.ordering.specs.Rows.{known_row, Fit};
 
 use types::records::RowIndex;
-use words::Found;
 
 // The row of this id, if the held tables are good and have one.
-pub fn known_row(rows: &[u64], edges: &[u64], h: usize, g: usize, id: u64) -> Found
+pub fn known_row(rows: &[u64], edges: &[u64], h: usize, g: usize, id: u64) -> Option<usize>
     ensures { result ≡ known_row rows.now edges.now h g id }
 {
     if shape::tables::is_bad_held(rows, edges, h, g) {
-        return Found::Nothing;
+        return None;
     }
     words::find_row(rows, rules::HELD, h, id)
 }

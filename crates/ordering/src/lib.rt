@@ -5,9 +5,8 @@
 ghost use Rattle.std.specs.Prelude.{◌≡◌, length};
 ghost use Rattle.rules.specs.Ordering.{query, ordering_of, first_after, second_after, order_work_after, permits_flow, known_rule, parent_stretch, child_stretch};
 
-use answers::{Eligibility, Judged, Ordering};
+use answers::{Eligibility, Ordering, Refusal};
 use types::records::{OrderingMode, RowIndex, SegmentId};
-use words::Found;
 
 pub mod known;
 
@@ -32,10 +31,10 @@ pub fn ordering_eligibility(
     ensures work_value { work.new ≡ order_work_after (query rows.now edges.now h g mode segment.0 history.now completed.now (record { work = length work.old; first = first.old; second = second.old })) work.old }
 {
     if shape::tables::is_bad_held(rows, edges, h, g) {
-        return query::refused(1, 0);
+        return query::refused(Refusal::BadTable);
     }
     if shape::room::lacks_room_to_order(work.len(), first.len(), second.len(), h, g) {
-        return query::refused(2, 0);
+        return query::refused(Refusal::NoRoom);
     }
     let answer = query::ask_held(
         &rows[0..h * rules::HELD],
@@ -67,16 +66,22 @@ pub fn permits_flow(answer: Eligibility) -> bool
 }
 
 // 1, 50: whether parents and children of this segment can be asked for.
-pub fn judge_known(rows: &[u64], edges: &[u64], h: usize, g: usize, id: SegmentId) -> Judged
+pub fn judge_known(
+    rows: &[u64],
+    edges: &[u64],
+    h: usize,
+    g: usize,
+    id: SegmentId,
+) -> Result<(), Refusal>
     ensures { result ≡ known_rule rows.now edges.now h g id.0 }
 {
     if shape::tables::is_bad_held(rows, edges, h, g) {
-        return answers::refuse(1, 0, 0, 0, 0);
+        return Err(Refusal::BadTable);
     }
     let found = words::find_row(rows, rules::HELD, h, id.0);
     match found {
-        Found::At(_) => Judged::Accepted,
-        Found::Nothing => answers::refuse(50, id.0, 0, 0, 0),
+        Some(_) => Ok(()),
+        None => Err(Refusal::UnknownSegment { id: id.0 }),
     }
 }
 
@@ -92,8 +97,8 @@ pub fn parents_of<'a>(
 {
     let found = known::known_row(rows, edges, h, g, id.0);
     match found {
-        Found::At(r) => known::parents_in(rows, edges, h, g, RowIndex(r)),
-        Found::Nothing => &edges[0..0],
+        Some(r) => known::parents_in(rows, edges, h, g, RowIndex(r)),
+        None => &edges[0..0],
     }
 }
 
@@ -109,7 +114,7 @@ pub fn children_of<'a>(
 {
     let found = known::known_row(rows, edges, h, g, id.0);
     match found {
-        Found::At(r) => known::children_in(rows, edges, h, g, RowIndex(r)),
-        Found::Nothing => &edges[0..0],
+        Some(r) => known::children_in(rows, edges, h, g, RowIndex(r)),
+        None => &edges[0..0],
     }
 }

@@ -1,5 +1,5 @@
 // Queries, answers and lists as text.
-use answers::{Eligibility, Judged, Ordering, Refusal};
+use answers::{Eligibility, Ordering, Refusal};
 use shown::{ids, text, word};
 use std::io;
 use types::records::OrderingMode;
@@ -89,13 +89,13 @@ pub fn answer(rt: &impl Print, o: Ordering, first: &[u64], second: &[u64]) -> io
     permitted(rt, e)
 }
 
-pub fn judged(rt: &impl Print, label: &[u8], id: u64, j: Judged) -> io::Result<()> {
+pub fn judged(rt: &impl Print, label: &[u8], id: u64, j: Result<(), Refusal>) -> io::Result<()> {
     text(rt, label)?;
     word(rt, id)?;
     text(rt, b":")?;
     match j {
-        Judged::Accepted => text(rt, b" accepted")?,
-        Judged::Refused(r) => refusal(rt, r)?,
+        Ok(()) => text(rt, b" accepted")?,
+        Err(r) => refusal(rt, r)?,
     }
     text(rt, b"\n")
 }

@@ -17,9 +17,7 @@ use lib.Seq.{take-suc, take_all, take-set-le, get_or-set_same, get_or-set_other}
 use Rattle.lists.specs.Lists.{has}
 use Rattle.lists.proofs.SetLaws.{has-append}
 use Rattle.words.specs.Part.{part, put}
-use Rattle.words.specs.Table.{ids, where_is, Ascends}
-use Rattle.words.specs.declared.Found.{Found}
-use Rattle.words.specs.declared.Found.TheVariants.{At, Nothing}
+use Rattle.words.specs.Table.{ids, where_is, Ascends, Found, At, Nothing}
 use Rattle.words.proofs.PartLaws.{part_length, part_at, part-as, Loan, loan}
 use Rattle.words.proofs.TableLaws.{at-is, nothing_is}
 use Rattle.tabled.proofs.Kept.{word_kept, part-kept}

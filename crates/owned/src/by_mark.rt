@@ -23,10 +23,8 @@ pub fn list_marked(w: &[u64], b: usize, k: usize, s: usize, mark: u64, list: &mu
     ensures value { result ≡ length (with_mark w.now b s mark k) }
 {
     let mut len = 0;
-    let mut i = 0;
-    while i < k {
+    for i in 0..k {
         len = list_one(list, len, w[s + i], mark, w[b + i]);
-        i += 1;
     }
     len
 }

@@ -4,8 +4,6 @@ ghost use Rattle.words.specs.Part.{part};
 ghost use Rattle.words.specs.Table.{Ascends};
 ghost use Rattle.owned.specs.Marks.{Marked, Raised, status_of};
 
-use words::Found;
-
 // The word at this place becomes `to` where it is `from`.
 fn raise_word(w: &mut [u64], at: usize, from: u64, to: u64)
     requires { at < length w.old }
@@ -22,7 +20,7 @@ fn raise_one(w: &mut [u64], b: usize, k: usize, s: usize, x: u64, from: u64, to:
     ensures { Raised (x ∷ []) from to b s k w.old w.new }
 {
     let found = words::find_row(&w[b..b + k], 1, k, x);
-    if let Found::At(i) = found {
+    if let Some(i) = found {
         raise_word(w, s + i, from, to);
     }
 }
@@ -30,13 +28,11 @@ fn raise_one(w: &mut [u64], b: usize, k: usize, s: usize, x: u64, from: u64, to:
 // The marks of those ids that the list has.
 fn raise_all(w: &mut [u64], b: usize, k: usize, s: usize, list: &[u64], from: u64, to: u64)
     requires k_bound { (b + k ≤ s) × (s + k ≤ length w.old) × Ascends (part w.old b k) }
-    requires fact { from ≡ to → ⊥ }
+    requires from_differs { from ≡ to → ⊥ }
     ensures { Raised list.now from to b s k w.old w.new }
 {
-    let mut j = 0;
-    while j < list.len() {
-        raise_one(w, b, k, s, list[j], from, to);
-        j += 1;
+    for &x in list {
+        raise_one(w, b, k, s, x, from, to);
     }
 }
 

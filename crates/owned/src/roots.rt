@@ -5,25 +5,24 @@ ghost use Rattle.words.specs.Table.{ids, Ascends};
 ghost use Rattle.rules.specs.Tables.{held_width};
 ghost use Rattle.owned.specs.Marks.{Marked, root_row, root_of};
 
-use words::Found;
-
 fn is_root_row(rows: &[u64], r: usize) -> bool
     requires { r * held_width + held_width ≤ length rows.now }
     ensures { result ≡ root_row rows.now r }
 {
     let row = r * rules::HELD;
-    rows[row + 9] == 0 && rows[row + 4] > 0
+    rows[row + rules::PARENTS] == 0 && rows[row + rules::CREATED] > 0
 }
 
 // Is the segment with this id a pruned root? The hint `at` may be any number: best is the row of x, or the first above it.
+#[tactic(auto, using(crate::proofs::Rooted::root_room, crate::proofs::Rooted::root_at, crate::proofs::Rooted::root_none))]
 pub fn is_root(rows: &[u64], h: usize, x: u64, at: usize) -> bool
     requires { (h * held_width ≤ length rows.now) × Ascends (ids rows.now held_width h) }
     ensures { result ≡ root_of rows.now h x }
 {
     let found = hints::near::find_near(rows, rules::HELD, h, x, at);
     match found {
-        Found::At(r) => is_root_row(rows, r),
-        Found::Nothing => false,
+        Some(r) => is_root_row(rows, r),
+        None => false,
     }
 }
 
@@ -45,11 +44,9 @@ pub fn mark_roots(rows: &[u64], h: usize, w: &mut [u64], b: usize, k: usize, s: 
     ensures { Marked (λ (x : ℕ). tick (root_of rows.now h x)) b s k w.old w.new }
 {
     let mut at = 0;
-    let mut i = 0;
-    while i < k {
+    for i in 0..k {
         let x = w[b + i];
         at = hints::near::next_hint(rows, rules::HELD, h, x, at);
         w[s + i] = root_mark(rows, h, x, at);
-        i += 1;
     }
 }

@@ -19,6 +19,3 @@ module _ (w w₁ u : List ℕ) (n e at : ℕ) (room : n * held_width + e ≤ at)
 
   pub told-count : (r : ℕ) → r ≡ length (merges_from u (image_segments w₁ n e)) → r ≡ length (merges_from u (image_segments w n e))
   told-count r said = said ∙ ap (λ (ss : List Segment). length (merges_from u ss)) (segments-kept w₁ w at kept n e room)
-
-  pub told-kept : (w₂ : List ℕ) → take at w₂ ≡ take at w₁ → take at w₂ ≡ take at w
-  told-kept w₂ e = e ∙ kept

@@ -16,16 +16,14 @@ use Rattle.lists.proofs.SetLaws.{keep-shorter}
 use Rattle.words.specs.Part.{put}
 use Rattle.words.proofs.PartLaws.{put-none}
 use Rattle.rules.specs.Tables.{held_width}
-use Rattle.words.specs.Table.{where_is}
-use Rattle.words.specs.declared.Found.{Found}
-use Rattle.words.specs.declared.Found.TheVariants.{At, Nothing}
+use Rattle.words.specs.Table.{where_is, Found, At, Nothing}
 use Rattle.words.proofs.TableLaws.{length_ids, ids_at, hit, has-hit}
 use Rattle.paired.specs.Tables.{lacking, ids_in}
 
 -- ---- the search
 
-pub found-has : (l : List ℕ) (x r : ℕ) (f : Found) → f ≡ where_is l x → f ≡ At r → (b : Bool) → b ≡ true → b ≡ has x l
-found-has l x r f e g b h = h ∙ sym (has-hit l x ∙ ap hit (sym e ∙ g))
+pub found_has : (l : List ℕ) (x r : ℕ) (f : Found) → f ≡ where_is l x → f ≡ At r → (b : Bool) → b ≡ true → b ≡ has x l
+found_has l x r f e g b h = h ∙ sym (has-hit l x ∙ ap hit (sym e ∙ g))
 
 pub missing_has : (l : List ℕ) (x : ℕ) (f : Found) → f ≡ where_is l x → f ≡ Nothing → (b : Bool) → b ≡ false → b ≡ has x l
 missing_has l x f e g b h = h ∙ sym (has-hit l x ∙ ap hit (sym e ∙ g))

@@ -8,7 +8,6 @@ use mathlib.Core.Path.{◌≡◌, refl, sym, ap, ◌∙◌}
 use mathlib.Core.Bool.{Bool, true, false}
 use mathlib.Core.List.{List, [], ◌∷◌, ◌++◌, map, map-append, append_assoc, append-nil}
 use borrow.Author.Tests.{eqb-true, ltb-false}
-use lib.Dec.{eqb, ltb}
 use lib.ListN.{length, get_or, take, drop, set, length-append, length-map, length-drop}
 use lib.Seq.{take-suc, take_all, take-suc-set, length-take-le}
 use Rattle.lists.specs.Lists.{has}
@@ -65,13 +64,13 @@ placed_one w ys at k x y h len e =
     }
 
 module _ (w ys : List ℕ) (at k child parent : ℕ) (merge : Bool) (room : at + 3 * (k + 1) ≤ length w) (len : length ys ≡ length (part w at (length w - at))) where
-  pub placed-merge : merge ≡ true → rows ys ≡ set (rows (part w at (length w - at))) k (child, parent, 0)
+  pub placed_merge : merge ≡ true → rows ys ≡ set (rows (part w at (length w - at))) k (child, parent, 0)
       → Placed w (put w at (length w - at) ys) at k (k + 1) (pair_of merge child parent ∷ [])
-  placed-merge m e = rw m (placed_one w ys at k child parent room len e)
+  placed_merge m e = rw m (placed_one w ys at k child parent room len e)
 
-  pub placed-split : merge ≡ false → rows ys ≡ set (rows (part w at (length w - at))) k (parent, child, 0)
+  pub placed_split : merge ≡ false → rows ys ≡ set (rows (part w at (length w - at))) k (parent, child, 0)
       → Placed w (put w at (length w - at) ys) at k (k + 1) (pair_of merge child parent ∷ [])
-  placed-split m e = rw m (placed_one w ys at k parent child room len e)
+  placed_split m e = rw m (placed_one w ys at k parent child room len e)
 
 -- ---- one parent
 
@@ -93,12 +92,12 @@ module _ (u : List ℕ) (parent : ℕ) (b : Bool) (said : b ≡ has parent u) wh
   is_known told = rw (sym said ∙ told) refl
 
   module _ (w : List ℕ) (at k child : ℕ) (merge : Bool) where
-    pub parent-skip : b ≡ false → Placed w w at k k (map (pair_of merge child) (known (parent ∷ []) u))
-    parent-skip told = placed-none w at k k _ refl (ap (map (pair_of merge child)) (unknown told))
+    pub parent_skip : b ≡ false → Placed w w at k k (map (pair_of merge child) (known (parent ∷ []) u))
+    parent_skip told = placed-none w at k k _ refl (ap (map (pair_of merge child)) (unknown told))
 
-    pub parent-put : b ≡ true → (w' : List ℕ) → Placed w w' at k (k + 1) (pair_of merge child parent ∷ [])
+    pub parent_put : b ≡ true → (w' : List ℕ) → Placed w w' at k (k + 1) (pair_of merge child parent ∷ [])
         → Placed w w' at k (k + 1) (map (pair_of merge child) (known (parent ∷ []) u))
-    parent-put told w' p = rw (is_known told) p
+    parent_put told w' p = rw (is_known told) p
 
 -- ---- the parents of a child
 
@@ -152,12 +151,6 @@ module _ (u list : List ℕ) (held j : ℕ) (e : held ≡ length (known (take j 
 
 -- ---- a child
 
-pub wanted-merge : (merge : Bool) (held : ℕ) (b : Bool) → merge ≡ true → b ≡ ltb 1 held → b ≡ wanted merge held
-wanted-merge merge held b m e = rw m e
-
-pub wanted-split : (merge : Bool) (held : ℕ) (b : Bool) → merge ≡ false → b ≡ eqb held 1 → b ≡ wanted merge held
-wanted-split merge held b m e = rw m e
-
 -- as many parents as the kind asks for make a pair each
 kind-all : (merge : Bool) (child : ℕ) (l : List ℕ) → wanted merge (length l) ≡ true → kind_of merge child l ≡ map (pair_of merge child) l
 kind-all false child [] e = never e
@@ -177,19 +170,19 @@ kind-none true child (x ∷ []) e = refl
 kind-none true child (x ∷ y ∷ l) e = absurd (omega (arith, ltb-false 1 (length (x ∷ y ∷ l)) e))
 
 module _ (u w : List ℕ) (from count at k child : ℕ) (merge b : Bool) (said : b ≡ has child u) where
-  pub child-held : b ≡ true → Placed w w at k k (row_pairs merge u child (part w from count))
+  pub child_held : b ≡ true → Placed w w at k k (row_pairs merge u child (part w from count))
   unfolding row_pairs
-  child-held told = placed-none w at k k _ refl (rw (sym said ∙ told) refl)
+  child_held told = placed-none w at k k _ refl (rw (sym said ∙ told) refl)
 
   module _ (held : ℕ) (c : Bool) (counted : held ≡ length (known (part w from (from + count - from)) u)) (asked : c ≡ wanted merge held) where
     is-wanted : wanted merge (length (known (part w from count) u)) ≡ c
     is-wanted = sym (asked ∙ ap (wanted merge) (counted ∙ ap (λ (l : List ℕ). length (known l u)) (part-as w from (from + count) count refl)))
 
-    pub child-unwanted : b ≡ false → c ≡ false → Placed w w at k k (row_pairs merge u child (part w from count))
+    pub child_unwanted : b ≡ false → c ≡ false → Placed w w at k k (row_pairs merge u child (part w from count))
     unfolding row_pairs
-    child-unwanted told n = placed-none w at k k _ refl (rw (sym said ∙ told) (kind-none merge child (known (part w from count) u) (is-wanted ∙ n)))
+    child_unwanted told n = placed-none w at k k _ refl (rw (sym said ∙ told) (kind-none merge child (known (part w from count) u) (is-wanted ∙ n)))
 
-    pub child-wanted : b ≡ false → c ≡ true → (w' : List ℕ) (r : ℕ) → Placed w w' at k r (map (pair_of merge child) (known (part w from count) u))
+    pub child_wanted : b ≡ false → c ≡ true → (w' : List ℕ) (r : ℕ) → Placed w w' at k r (map (pair_of merge child) (known (part w from count) u))
         → Placed w w' at k r (row_pairs merge u child (part w from count))
     unfolding row_pairs
-    child-wanted told y w' r p = rw (sym said ∙ told, kind-all merge child (known (part w from count) u) (is-wanted ∙ y)) p
+    child_wanted told y w' r p = rw (sym said ∙ told, kind-all merge child (known (part w from count) u) (is-wanted ∙ y)) p

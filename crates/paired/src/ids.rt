@@ -5,16 +5,15 @@ ghost use Rattle.words.specs.Part.{put};
 ghost use Rattle.rules.specs.Tables.{held_width};
 ghost use Rattle.paired.specs.Tables.{Rows, ids_in, lacking};
 
-use words::Found;
-
 // Does one of the h rows have this id?
+#[tactic(auto, using(crate::proofs::Listed::found_has, crate::proofs::Listed::missing_has))]
 pub fn is_held(old: &[u64], h: usize, id: u64) -> bool
     requires { Rows old.now h }
     ensures { result ≡ has id (ids_in old.now h) }
 {
     match words::find_row(old, rules::HELD, h, id) {
-        Found::At(_) => true,
-        Found::Nothing => false,
+        Some(_) => true,
+        None => false,
     }
 }
 
@@ -41,10 +40,8 @@ pub fn write_lacking(out: &mut [u64], these: &[u64], n: usize, those: &[u64], h:
     ensures out_after { out.new ≡ front (lacking (ids_in these.now n) (ids_in those.now h)) out.old }
 {
     let mut k = 0;
-    let mut i = 0;
-    while i < n {
+    for i in 0..n {
         k = push_lacking(out, k, these[i * rules::HELD], those, h);
-        i += 1;
     }
     k
 }

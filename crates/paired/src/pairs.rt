@@ -64,11 +64,9 @@ fn place_parents(
     ensures { Placed w.old w.new at k result (map (pair_of merge child) (known (part w.old from count) (ids_in old.now h))) }
 {
     let mut r = k;
-    let mut j = 0;
-    while j < count {
+    for j in 0..count {
         let parent = w[from + j];
         r = place_parent(w, at, r, merge, child, parent, old, h);
-        j += 1;
     }
     r
 }
@@ -79,12 +77,10 @@ fn count_held(list: &[u64], old: &[u64], h: usize) -> usize
     ensures { result ≡ length (known list.now (ids_in old.now h)) }
 {
     let mut held = 0;
-    let mut j = 0;
-    while j < list.len() {
-        if crate::ids::is_held(old, h, list[j]) {
+    for &id in list {
+        if crate::ids::is_held(old, h, id) {
             held += 1;
         }
-        j += 1;
     }
     held
 }
@@ -93,10 +89,7 @@ fn count_held(list: &[u64], old: &[u64], h: usize) -> usize
 fn is_wanted(merge: bool, held: usize) -> bool
     ensures { result ≡ wanted merge held }
 {
-    if merge {
-        return 1 < held;
-    }
-    held == 1
+    if merge { 1 < held } else { held == 1 }
 }
 
 // The pairs of one row, behind k rows: none if it was held before.
@@ -146,15 +139,13 @@ fn place_pairs(
 {
     let mut from = n * rules::HELD;
     let mut k = 0;
-    let mut i = 0;
-    while i < n {
+    for i in 0..n {
         let row = i * rules::HELD;
         let child = w[row];
-        let count = w[row + 9] as usize;
-        let children = w[row + 10] as usize;
+        let count = w[row + rules::PARENTS] as usize;
+        let children = w[row + rules::CHILDREN] as usize;
         k = place_child(w, from, count, at, k, merge, child, old, h);
         from += count + children;
-        i += 1;
     }
     k
 }
@@ -165,13 +156,11 @@ fn copy_pairs(out: &mut [u64], pairs: &[u64], k: usize)
     requires k_in_bounds { 2 * k ≤ length out.old }
     ensures { out.new ≡ front (two_words (rows pairs.now)) out.old }
 {
-    let mut i = 0;
-    while i < k {
+    for i in 0..k {
         let x = pairs[3 * i];
         let y = pairs[3 * i + 1];
         out[2 * i] = x;
         out[2 * i + 1] = y;
-        i += 1;
     }
 }
 
@@ -203,6 +192,7 @@ fn write_pairs(
 }
 
 // The split pairs, ascending, at the front of splits; how many they are. The words before `at` stay.
+#[tactic(auto, unfolding(crate::specs::Pairs::pairs_of, crate::specs::Pairs::splits_from))]
 pub fn write_splits(
     w: &mut [u64],
     n: usize,
@@ -225,6 +215,7 @@ pub fn write_splits(
 }
 
 // The merge pairs, ascending, at the front of merges; how many they are. The words before `at` stay.
+#[tactic(auto, unfolding(crate::specs::Pairs::pairs_of, crate::specs::Pairs::merges_from))]
 pub fn write_merges(
     w: &mut [u64],
     n: usize,

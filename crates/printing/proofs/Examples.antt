@@ -3,7 +3,7 @@
 use Prim.Native.Nat.{ℕ}
 use mathlib.Core.Path.{◌≡◌, refl}
 use mathlib.Core.List.{[], ◌∷◌}
-use Rattle.answers.specs.declared.Refusal.{Refusal}
+use Rattle.answers.specs.declared.RefusalWords.{RefusalWords}
 use Rattle.answers.specs.declared.DagChangeReason.TheVariants.{Split, Merge, Unknown}
 use Rattle.answers.specs.declared.Eligibility.TheVariants as E
 use Rattle.answers.specs.declared.Updated.TheVariants as U
@@ -12,7 +12,7 @@ use Rattle.texts.specs.CommaList.{commas, listed, pairs_listed}
 use Rattle.printing.specs.Shown.{first_text, value_texts, shown_refusal, shown_accepted, shown_updated, shown_unprovable, shown_blocked, shown_managed, shown_ordering, shown_unreadable}
 use Rattle.texts.specs.Text.{bytes_of}
 
-abbrev refusal : ℕ → ℕ → ℕ → ℕ → ℕ → Refusal
+abbrev refusal : ℕ → ℕ → ℕ → ℕ → ℕ → RefusalWords
 refusal n a b c d = record { number = n; a = a; b = b; c = c; d = d }
 
 -- ---- the five lines of the worked example; the lists stand at the front of areas that hold 9s

@@ -9,7 +9,7 @@ use lib.Dec.{ltb}
 use lib.ListN.{take}
 use lib.Seq.{take-nil}
 use borrow.Author.Tests.{lt-ltb, le-ltb, eq-eqb, ne_eqb}
-use Rattle.answers.specs.declared.Refusal.{Refusal}
+use Rattle.answers.specs.declared.RefusalWords.{RefusalWords}
 use Rattle.answers.specs.declared.kinds.Kind.{Kind}
 use Rattle.answers.specs.Kinds.{kind_of}
 use Rattle.texts.specs.Written.{Wrote}
@@ -28,24 +28,24 @@ pub field : (ts : List (List ℕ)) (zs : List ℕ) {area : List ℕ} {at : ℕ} 
 field ts zs {t = t} w v = rw (append_assoc t (spaced ts) zs) (on w v)
 
 -- number and values, then what else the line has
-pub refused-on : (r : Refusal) (more : List (List ℕ))
+pub refused-on : (r : RefusalWords) (more : List (List ℕ))
     → (82 ∷ spaced (decimal r.number ∷ value_texts r)) ++ (spaced more ++ (10 ∷ [])) ≡ refused r more
 refused-on r more =
     let ts = decimal r.number ∷ value_texts r in
     ap (λ (l : List ℕ). 82 ∷ l)
     (sym (append_assoc (spaced ts) (spaced more) (10 ∷ [])) ∙ ap (λ (l : List ℕ). l ++ (10 ∷ [])) (sym (spaced-append ts more)))
 
-pub refusal-shown : (r : Refusal) → (82 ∷ spaced (decimal r.number ∷ value_texts r)) ++ (10 ∷ []) ≡ shown_refusal r
+pub refusal-shown : (r : RefusalWords) → (82 ∷ spaced (decimal r.number ∷ value_texts r)) ++ (10 ∷ []) ≡ shown_refusal r
 unfolding shown_refusal
 refusal-shown r = refused-on r []
 
 -- ---- values
 
-pub first_signed : (r : Refusal) → r.number ≡ 41 → signed r.a ≡ first_text r
+pub first_signed : (r : RefusalWords) → r.number ≡ 41 → signed r.a ≡ first_text r
 unfolding first_text
 first_signed r e = rw (eq-eqb r.number 41 e) refl
 
-pub first_plain : (r : Refusal) → (r.number ≡ 41 → ⊥) → decimal r.a ≡ first_text r
+pub first_plain : (r : RefusalWords) → (r.number ≡ 41 → ⊥) → decimal r.a ≡ first_text r
 unfolding first_text
 first_plain r e = rw (ne_eqb r.number 41 e) refl
 
@@ -69,13 +69,13 @@ carried (suc (suc (suc (suc j)))) a b c d h =
     let k = suc (suc (suc (suc j))) in
     rw (lt-ltb 1 k (omega arith), lt-ltb 2 k (omega arith), lt-ltb 3 k (omega arith), take-nil j, append-nil d) refl
 
-pub values-none : (r : Refusal) (k : Kind) → k ≡ kind_of r.number → k.values ≡ 0 → [] ≡ spaced (value_texts r)
+pub values-none : (r : RefusalWords) (k : Kind) → k ≡ kind_of r.number → k.values ≡ 0 → [] ≡ spaced (value_texts r)
 unfolding value_texts
 values-none r k e z =
     let n : (kind_of r.number).values ≡ 0 = ap (λ (x : Kind). x.values) (sym e) ∙ z in
     rw n refl
 
-pub values-some : (r : Refusal) (k : Kind) → k ≡ kind_of r.number → 1 ≤ k.values
+pub values-some : (r : RefusalWords) (k : Kind) → k ≡ kind_of r.number → 1 ≤ k.values
     → (32 ∷ first_text r) ++ (carries 1 k.values (decimal r.b) ++ (carries 2 k.values (decimal r.c) ++ carries 3 k.values (decimal r.d)))
     ≡ spaced (value_texts r)
 unfolding value_texts

@@ -9,12 +9,13 @@ use native.Mathlib.Omega.{arith}
 use native.Mathlib.Nat.{suc-mul}
 use lib.Dec.{eqb}
 use lib.ListN.{length, take, length-append, length-take}
-use Rattle.answers.specs.declared.Refusal.{Refusal}
+use Rattle.answers.specs.declared.RefusalWords.{RefusalWords}
 use Rattle.answers.specs.declared.DagDelta.{DagDelta}
 use Rattle.answers.specs.declared.Eligibility.{Eligibility}
 use Rattle.answers.specs.declared.Eligibility.TheVariants as E
 use Rattle.answers.specs.declared.Updated.{Updated}
 use Rattle.answers.specs.declared.Updated.TheVariants as U
+use Rattle.answers.specs.Answer.{words_of}
 use Rattle.answers.specs.Kinds.{kind_of}
 use Rattle.texts.specs.Decimal.{decimal, signed}
 use Rattle.texts.specs.CommaList.{listed, pairs_listed}
@@ -43,7 +44,7 @@ either false s t h g = g
 value : (n : ℕ) → length (decimal n) ≤ 21
 value n = omega (arith, decimal-length n)
 
-first : (r : Refusal) → length (first_text r) ≤ 21
+first : (r : RefusalWords) → length (first_text r) ≤ 21
 unfolding first_text
 first r = either (eqb r.number 41) (signed r.a) (decimal r.a) (signed-length r.a) (value r.a)
 
@@ -51,7 +52,7 @@ spaced-length : (m : ℕ) (ts : List (List ℕ)) → Within m ts → length (spa
 spaced-length m [] w = omega arith
 spaced-length m (t ∷ ts) w = omega (arith, w.0, length-append t (spaced ts), spaced-length m ts w.1, suc-mul (length ts) (m + 1))
 
-values_length : (r : Refusal) → length (spaced (value_texts r)) ≤ 88
+values_length : (r : RefusalWords) → length (spaced (value_texts r)) ≤ 88
 unfolding value_texts
 values_length r =
     let k = (kind_of r.number).values in
@@ -60,13 +61,13 @@ values_length r =
     let h : length (take k ts) ≤ 4 = rw (length-take k ts) (omega arith) in
     omega (arith, spaced-length 21 (take k ts) (within-take 21 k ts w), h)
 
-refused-length : (r : Refusal) (more : List (List ℕ)) {k : ℕ} → length (spaced more) ≤ k → length (refused r more) ≤ 21 + (88 + k) + 2
+refused-length : (r : RefusalWords) (more : List (List ℕ)) {k : ℕ} → length (spaced more) ≤ k → length (refused r more) ≤ 21 + (88 + k) + 2
 refused-length r more {k} h =
     let e = ap length (spaced-append (value_texts r) more) ∙ length-append (spaced (value_texts r)) (spaced more) in
     let v : length (spaced (value_texts r ++ more)) ≤ 88 + k = omega (arith, e, values_length r) in
     lined 82 (decimal r.number ∷ (value_texts r ++ more)) (wider (decimal r.number) (value_texts r ++ more) (decimal-length r.number) v)
 
-pub refusal-fits : (r : Refusal) → length (shown_refusal r) ≤ 111
+pub refusal-fits : (r : RefusalWords) → length (shown_refusal r) ≤ 111
 unfolding shown_refusal
 refusal-fits r = refused-length r [] {k = 0} (omega arith)
 
@@ -101,7 +102,7 @@ accepted-fits d rows order added removed splits merges few =
 
 pub updated-fits : (u : Updated) (rows : ℕ) (order added removed splits merges : List ℕ) → Few u rows
     → length (shown_updated u rows order added removed splits merges) ≤ 7448
-updated-fits (U.Refused r) rows order added removed splits merges few = omega (arith, refusal-fits r)
+updated-fits (U.Refused r) rows order added removed splits merges few = omega (arith, refusal-fits (words_of r))
 updated-fits U.Stale rows order added removed splits merges few = omega arith
 updated-fits (U.Accepted d) rows order added removed splits merges few = accepted-fits d rows order added removed splits merges few
 
@@ -116,7 +117,7 @@ Short (E.BrokerManaged m) = m ≤ 65
 
 pub ordering-fits : (e : Eligibility) (first second : List ℕ) → Short e → length (shown_ordering e first second) ≤ 2736
 unfolding shown_unprovable shown_blocked shown_managed
-ordering-fits (E.Refused r) one two few = omega (arith, refusal-fits r)
+ordering-fits (E.Refused r) one two few = omega (arith, refusal-fits (words_of r))
 ordering-fits (E.Unprovable id n) one two few =
     let h : length (spaced (listed n one ∷ [])) ≤ 1367 = wider (listed n one) [] {k = 0} (ids one few) (omega arith) in
     omega (arith, refused-length (record { number = 51; a = id; b = 0; c = 0; d = 0 }) (listed n one ∷ []) h)

@@ -4,7 +4,7 @@
 -- Assumes nothing.
 use Rattle.std.specs.Prelude.{ℕ, cond, List, [], ◌∷◌, ◌++◌, eqb, take}
 use Prim.Native.Char.{code}
-use Rattle.answers.specs.declared.Refusal.{Refusal}
+use Rattle.answers.specs.declared.RefusalWords.{RefusalWords}
 use Rattle.answers.specs.declared.DagChangeReason.{DagChangeReason}
 use Rattle.answers.specs.declared.DagChangeReason.TheVariants.{Split, Merge, SegmentRemoved, Unknown}
 use Rattle.answers.specs.declared.DagDelta.{DagDelta}
@@ -12,7 +12,7 @@ use Rattle.answers.specs.declared.Eligibility.{Eligibility}
 use Rattle.answers.specs.declared.Eligibility.TheVariants as E
 use Rattle.answers.specs.declared.Updated.{Updated}
 use Rattle.answers.specs.declared.Updated.TheVariants as U
-use Rattle.answers.specs.Answer.{refusal_by, eligibility_number, eligibility_values}
+use Rattle.answers.specs.Answer.{words_by, words_of, eligibility_number, eligibility_values}
 use Rattle.answers.specs.Kinds.{kind_of}
 use Rattle.texts.specs.Decimal.{decimal, signed}
 use Rattle.texts.specs.CommaList.{listed, pairs_listed}
@@ -35,18 +35,18 @@ abbrev pub line : ℕ → List (List ℕ) → List ℕ
 line letter fields = letter ∷ (spaced fields ++ (10 ∷ []))
 
 -- "Broker (signed code, ..)": 41's first value
-unfoldable pub first_text : Refusal → List ℕ
+unfoldable pub first_text : RefusalWords → List ℕ
 first_text r = cond (eqb r.number 41) (signed r.a) (decimal r.a)
 
 -- the values that the number carries, by the fixed table
-unfoldable pub value_texts : Refusal → List (List ℕ)
+unfoldable pub value_texts : RefusalWords → List (List ℕ)
 value_texts r = take (kind_of r.number).values (first_text r ∷ decimal r.b ∷ decimal r.c ∷ decimal r.d ∷ [])
 
 -- "`R` number, values": the number, its values, and what else the line has
-abbrev pub refused : Refusal → List (List ℕ) → List ℕ
+abbrev pub refused : RefusalWords → List (List ℕ) → List ℕ
 refused r more = line (code "R") (decimal r.number ∷ (value_texts r ++ more))
 
-unfoldable pub shown_refusal : Refusal → List ℕ
+unfoldable pub shown_refusal : RefusalWords → List ℕ
 shown_refusal r = refused r []
 
 -- "reason letter (S, M, R, U)"
@@ -71,13 +71,13 @@ shown_accepted d rows order added removed splits merges =
 
 -- An update's answer, with the number of rows that its session holds then and the lists that it was lent.
 abbrev pub shown_updated : Updated → ℕ → List ℕ → List ℕ → List ℕ → List ℕ → List ℕ → List ℕ
-shown_updated (U.Refused r) rows order added removed splits merges = shown_refusal r
+shown_updated (U.Refused r) rows order added removed splits merges = shown_refusal (words_of r)
 shown_updated U.Stale rows order added removed splits merges = line (code "T") []
 shown_updated (U.Accepted d) rows order added removed splits merges = shown_accepted d rows order added removed splits merges
 
 -- 51: the segment and the list
 unfoldable pub shown_unprovable : ℕ → ℕ → List ℕ → List ℕ
-shown_unprovable id n list = refused (refusal_by (eligibility_number (E.Unprovable id n)) (eligibility_values (E.Unprovable id n))) (listed n list ∷ [])
+shown_unprovable id n list = refused (words_by (eligibility_number (E.Unprovable id n)) (eligibility_values (E.Unprovable id n))) (listed n list ∷ [])
 
 unfoldable pub shown_blocked : ℕ → List ℕ → ℕ → List ℕ → List ℕ
 shown_blocked n incomplete m remote = line (code "B") (listed n incomplete ∷ listed m remote ∷ [])
@@ -87,7 +87,7 @@ shown_managed m remote = line (code "M") (listed m remote ∷ [])
 
 -- An ordering query's answer, with the two lists that it was lent. 51's list stands in the first.
 abbrev pub shown_ordering : Eligibility → List ℕ → List ℕ → List ℕ
-shown_ordering (E.Refused r) first second = shown_refusal r
+shown_ordering (E.Refused r) first second = shown_refusal (words_of r)
 shown_ordering (E.Unprovable id n) first second = shown_unprovable id n first
 shown_ordering (E.Blocked n m) first second = shown_blocked n first m second
 shown_ordering E.Eligible first second = line (code "E") []

@@ -4,7 +4,7 @@ ghost use Rattle.texts.specs.Written.{Wrote};
 
 use crate::fields::{field_list, last_list, last_number, put_bare};
 use crate::refusals::{put_refusal, put_refused};
-use answers::{Eligibility, Refusal};
+use answers::{Eligibility, RefusalWords};
 use texts::area::put_byte;
 
 fn put_unprovable(out: &mut [u8], at: usize, id: u64, list: &[u64], count: usize) -> usize
@@ -13,7 +13,7 @@ fn put_unprovable(out: &mut [u8], at: usize, id: u64, list: &[u64], count: usize
     let p = put_refused(
         out,
         at,
-        Refusal {
+        RefusalWords {
             number: 51,
             a: id,
             b: 0,
@@ -56,7 +56,7 @@ pub fn put_ordering(
     ensures { Wrote out.old at (shown_ordering answer first.now second.now) out.new result }
 {
     match answer {
-        Eligibility::Refused(r) => put_refusal(out, at, r),
+        Eligibility::Refused(r) => put_refusal(out, at, r.into()),
         Eligibility::Unprovable(id, n) => put_unprovable(out, at, id, first, n),
         Eligibility::Blocked(n, m) => put_blocked(out, at, first, n, second, m),
         Eligibility::Eligible => put_bare(out, at, b'E'),

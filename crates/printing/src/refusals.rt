@@ -5,12 +5,12 @@ ghost use Rattle.printing.specs.Shown.{spaced, first_text, value_texts, shown_re
 ghost use Rattle.texts.specs.Written.{Wrote};
 
 use crate::fields::{END, field_number};
-use answers::Refusal;
+use answers::RefusalWords;
 use texts::area::{put_byte, put_nothing};
 use texts::numbers::{put_number, put_signed};
 
 // 41's code has a sign.
-fn field_first(out: &mut [u8], at: usize, r: Refusal) -> usize
+fn field_first(out: &mut [u8], at: usize, r: RefusalWords) -> usize
     ensures { Wrote out.old at (32 ∷ first_text r) out.new result }
 {
     let p = put_byte(out, at, b' ');
@@ -31,7 +31,7 @@ fn field_value(out: &mut [u8], at: usize, place: u64, carried: u64, value: u64) 
 }
 
 // The values that the number carries, by the fixed table.
-fn put_values(out: &mut [u8], at: usize, r: Refusal) -> usize
+fn put_values(out: &mut [u8], at: usize, r: RefusalWords) -> usize
     ensures { Wrote out.old at (spaced (value_texts r)) out.new result }
 {
     let carried = answers::kinds::kind_of(r.number).values;
@@ -45,7 +45,7 @@ fn put_values(out: &mut [u8], at: usize, r: Refusal) -> usize
 }
 
 // Number and values, without the line's end.
-pub fn put_refused(out: &mut [u8], at: usize, r: Refusal) -> usize
+pub fn put_refused(out: &mut [u8], at: usize, r: RefusalWords) -> usize
     ensures { Wrote out.old at (82 ∷ spaced (decimal r.number ∷ value_texts r)) out.new result }
 {
     let p = put_byte(out, at, b'R');
@@ -53,7 +53,7 @@ pub fn put_refused(out: &mut [u8], at: usize, r: Refusal) -> usize
     put_values(out, q, r)
 }
 
-pub fn put_refusal(out: &mut [u8], at: usize, refusal: Refusal) -> usize
+pub fn put_refusal(out: &mut [u8], at: usize, refusal: RefusalWords) -> usize
     ensures { Wrote out.old at (shown_refusal refusal) out.new result }
 {
     let p = put_refused(out, at, refusal);

@@ -75,7 +75,7 @@ pub fn put_updated(
     ensures { Wrote out.old at (shown_updated answer rows order.now added.now removed.now splits.now merges.now) out.new result }
 {
     match answer {
-        Updated::Refused(r) => put_refusal(out, at, r),
+        Updated::Refused(r) => put_refusal(out, at, r.into()),
         Updated::Stale => put_bare(out, at, b'T'),
         Updated::Accepted(d) => {
             put_accepted(out, at, d, rows, order, added, removed, splits, merges)

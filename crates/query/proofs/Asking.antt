@@ -8,9 +8,7 @@ use mathlib.Core.List.{List, [], ◌∷◌}
 use lib.ListN.{get_or}
 use Rattle.lists.specs.Lists.{has}
 use Rattle.words.specs.Part.{part}
-use Rattle.words.specs.Table.{ids, where_is, Ascends}
-use Rattle.words.specs.declared.Found.{Found}
-use Rattle.words.specs.declared.Found.TheVariants.{At, Nothing}
+use Rattle.words.specs.Table.{ids, where_is, Ascends, Found, At, Nothing}
 use Rattle.words.proofs.TableLaws.{row-found, hit}
 use Rattle.answers.specs.declared.Ordering.{Ordering}
 use Rattle.answers.specs.declared.Eligibility.{Eligibility}

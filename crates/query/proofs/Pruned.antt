@@ -16,9 +16,7 @@ use Rattle.lists.specs.Lists as Lists
 use Rattle.lists.specs.Lists.{has}
 use Rattle.lists.specs.Sets.{add, keep}
 use Rattle.lists.proofs.SetLaws.{never, keep_same}
-use Rattle.words.specs.Table.{ids, where_is}
-use Rattle.words.specs.declared.Found.{Found}
-use Rattle.words.specs.declared.Found.TheVariants.{At, Nothing}
+use Rattle.words.specs.Table.{ids, where_is, Found, At, Nothing}
 use Rattle.words.proofs.TableLaws.{row-found, hit}
 use Rattle.rules.specs.Model.{Segment, ids_of, lookup}
 use Rattle.rules.specs.Tables.{held_width, held_segments, start_of, parents_at}

@@ -10,7 +10,6 @@ ghost use Rattle.query.specs.Told.{Replied, Room};
 
 use answers::{Eligibility, Ordering, Refusal};
 use types::records::{OrderingMode, RowIndex, SegmentId};
-use words::Found;
 
 mod answer;
 
@@ -55,18 +54,12 @@ fn ask_row(
     }
 }
 
-// A refusal with one value, and no reference read.
-pub fn refused(number: u64, a: u64) -> Ordering
-    ensures { result ≡ ordering_of (refused_at (record { number = number; a = a; b = 0; c = 0; d = 0 })) }
+// A refusal, and no reference read.
+pub fn refused(refusal: Refusal) -> Ordering
+    ensures { result ≡ ordering_of (refused_at refusal) }
 {
     Ordering {
-        eligibility: Eligibility::Refused(Refusal {
-            number,
-            a,
-            b: 0,
-            c: 0,
-            d: 0,
-        }),
+        eligibility: Eligibility::Refused(refusal),
         read: 0,
     }
 }
@@ -90,7 +83,7 @@ pub fn ask_held(
 {
     let found = words::find_row(rows, rules::HELD, h, segment.0);
     match found {
-        Found::At(r) => ask_row(
+        Some(r) => ask_row(
             rows,
             edges,
             h,
@@ -103,6 +96,6 @@ pub fn ask_held(
             first,
             second,
         ),
-        Found::Nothing => refused(50, segment.0),
+        None => refused(Refusal::UnknownSegment { id: segment.0 }),
     }
 }

@@ -1,8 +1,8 @@
--- The fields counted byte by byte: each space begins one more. A field of one byte, and an optional field, by their tests.
+-- The fields counted by the spaces: each begins one more. A field of one byte, and an optional field, by their tests.
 -- Assumes nothing.
 use mathlib.Core.Path.{◌≡◌, refl, sym, ◌∙◌}
 use mathlib.Core.List.{List, [], ◌∷◌}
-use Prim.Native.Nat.{ℕ, suc, ◌+◌, ◌<◌, ◌≤◌}
+use Prim.Native.Nat.{ℕ, suc, ◌+◌, ◌-◌, ◌<◌, ◌≤◌}
 use native.Mathlib.Numerals.{add-one}
 use native.Mathlib.Omega.{arith}
 use borrow.Author.Tests.{eq-eqb, ne_eqb}
@@ -14,27 +14,32 @@ use Rattle.reading.specs.declared.fields.Choice.TheVariants.{Chosen, NoChoice}
 use Rattle.reading.specs.Numbers.{number_of}
 use Rattle.reading.specs.Fields.{push, split, letter_of, option_of}
 use Rattle.reading.proofs.Parts.{split-first}
+use Rattle.std.specs.List.{count_by}
+use Rattle.std.proofs.lemmas.List.Recursion.{is_count_by}
+use mathlib.Core.Bool.{Bool, cond, true, false}
+use lib.Dec.{eqb}
 
 push-length : (sep b : ℕ) (s : List ℕ) → length (push b (split sep s)) ≡ length (split sep s)
 push-length sep b s = rw (split-first sep s) refl
 
-pub one-field-more : (sep : ℕ) (s : List ℕ) (i n m w : ℕ) → i < length s → get_or s i 0 ≡ sep → m ≡ n + 1 → n + length (split sep (drop i s)) ≡ w → m + length (split sep (drop (i + 1) s)) ≡ w
-unfolding split
-one-field-more sep s i n m w l h q e = omega (arith, step)
-  where
-    step : length (split sep (drop i s)) ≡ suc (length (split sep (drop (i + 1) s)))
-    step = rw (drop-cons s i 0 l, add-one) (rw (eq-eqb _ _ h) refl)
+-- there is a part at least
+some-part : (sep : ℕ) (s : List ℕ) → 0 < length (split sep s)
+some-part sep s = rw (split-first sep s) (omega arith)
 
-pub same-field : (sep : ℕ) (s : List ℕ) (i n m w : ℕ) → i < length s → (get_or s i 0 ≡ sep → ⊥) → m ≡ n → n + length (split sep (drop i s)) ≡ w → m + length (split sep (drop (i + 1) s)) ≡ w
+one-more : (sep b : ℕ) (s : List ℕ) → length (split sep (b ∷ s)) - 1 ≡ cond (eqb b sep) (1 + (length (split sep s) - 1)) (length (split sep s) - 1)
 unfolding split
-same-field sep s i n m w l h q e = omega (arith, step)
+one-more sep b s = go (eqb b sep)
   where
-    step : length (split sep (drop i s)) ≡ length (split sep (drop (i + 1) s))
-    step = rw (drop-cons s i 0 l, add-one) (rw (ne_eqb _ _ h) (push-length sep (get_or s i 0) (drop (suc i) s)))
+    go : (t : Bool) → length (cond t ([] ∷ split sep s) (push b (split sep s))) - 1 ≡ cond t (1 + (length (split sep s) - 1)) (length (split sep s) - 1)
+    go true = omega (arith, some-part sep s)
+    go false = rw (push-length sep b s) refl
 
-pub all-fields : (sep : ℕ) (s : List ℕ) (i n w : ℕ) → length s ≤ i → n + length (split sep (drop i s)) ≡ 1 + w → n ≡ w
+pub counted : (sep : ℕ) (s : List ℕ) → 1 + count_by (λ b. eqb b sep) s ≡ length (split sep s)
 unfolding split
-all-fields sep s i n w l e = let k : n + 1 ≡ 1 + w = rw (drop_of_length-le s l) at e in omega arith
+counted sep s =
+    let none : length (split sep []) - 1 ≡ 0 = refl in
+    let e = is_count_by (λ (l : List ℕ). length (split sep l) - 1) (λ (b : ℕ). eqb b sep) none (one-more sep) s in
+    omega (arith, e, some-part sep s)
 
 -- ---- a field of one byte
 

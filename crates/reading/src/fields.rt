@@ -17,25 +17,14 @@ pub enum Choice {
 pub fn count_fields(line: &[u8]) -> usize
     ensures { result ≡ length (fields_of line.now) }
 {
-    let mut n = 1;
-    let mut i = 0;
-    while i < line.len() {
-        if line[i] == b' ' {
-            n += 1;
-        }
-        i += 1;
-    }
-    n
+    1 + line.iter().filter(|&&b| b == b' ').count()
 }
 
 // The byte that a field of one byte is; 0 for any other field.
 pub fn letter(field: &[u8]) -> u8
     ensures { result ≡ letter_of field.now }
 {
-    if field.len() == 1 {
-        return field[0];
-    }
-    0
+    if field.len() == 1 { field[0] } else { 0 }
 }
 
 pub fn read_option(field: &[u8]) -> Choice

@@ -10,15 +10,13 @@ pub fn count_items(field: &[u8], room: usize) -> Listed
     ensures { result ≡ listed (numbers_of room (items_of field.now)) }
 {
     let mut from = 0;
-    let mut n = 0;
-    while n < room {
+    for n in 0..room {
         let to = spans::end_of(field, from, b',');
         let Number::Value(_) = numbers::read_number(&field[from..to]) else {
             return Listed::NoList;
         };
-        n += 1;
         if to == field.len() {
-            return Listed::Items(n);
+            return Listed::Items(n + 1);
         }
         from = to + 1;
     }
@@ -30,14 +28,12 @@ pub fn write_items(field: &[u8], words: &mut [u64])
     ensures { words.new ≡ filled words.old (front (length words.old) (items_of field.now)) }
 {
     let mut from = 0;
-    let mut n = 0;
-    while n < words.len() {
+    for n in 0..words.len() {
         let to = spans::end_of(field, from, b',');
         let Number::Value(v) = numbers::read_number(&field[from..to]) else {
             return;
         };
         words[n] = v;
-        n += 1;
         if to == field.len() {
             return;
         }

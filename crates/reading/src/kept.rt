@@ -4,7 +4,7 @@ ghost use Rattle.reading.specs.Numbers.{is_digit};
 ghost use Rattle.reading.specs.Kept.{is_edge, lone_zero, after};
 
 // How many bytes of the buffer hold the line.
-#[derive(Clone, Copy)]
+#[derive(Clone, Copy, PartialEq, Eq, Debug)]
 pub enum Kept {
     Bytes(usize),
     TooLong,
@@ -14,13 +14,7 @@ pub enum Kept {
 fn is_edge(b: u8) -> bool
     ensures { result ≡ is_edge b }
 {
-    if b == b' ' {
-        return true;
-    }
-    if b == b',' {
-        return true;
-    }
-    b == b'-'
+    b == b' ' || b == b',' || b == b'-'
 }
 
 // Do the first `n` bytes end in a number that is a single 0?
@@ -28,13 +22,7 @@ fn is_lone_zero(line: &[u8], n: usize) -> bool
     requires { n ≤ length line.now }
     ensures { result ≡ lone_zero (take n line.now) }
 {
-    if n < 2 {
-        return false;
-    }
-    if line[n - 1] != b'0' {
-        return false;
-    }
-    is_edge(line[n - 2])
+    n >= 2 && line[n - 1] == b'0' && is_edge(line[n - 2])
 }
 
 // Does the byte take the place of a single 0?
@@ -42,13 +30,7 @@ fn replaces(line: &[u8], n: usize, b: u8) -> bool
     requires { n ≤ length line.now }
     ensures { result ≡ (is_digit b && lone_zero (take n line.now)) }
 {
-    if b < b'0' {
-        return false;
-    }
-    if b'9' < b {
-        return false;
-    }
-    is_lone_zero(line, n)
+    b >= b'0' && b <= b'9' && is_lone_zero(line, n)
 }
 
 // One byte more of a line.

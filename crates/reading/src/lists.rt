@@ -6,7 +6,7 @@ ghost use Rattle.reading.specs.Lists.{list_of, listed, list_words, filled};
 use crate::{fields, items, spans};
 
 // A list by how many numbers it has.
-#[derive(Clone, Copy)]
+#[derive(Clone, Copy, PartialEq, Eq, Debug)]
 pub enum Listed {
     Items(usize),
     NoList,

@@ -3,14 +3,14 @@ ghost use Rattle.std.specs.Prelude.{◌≡◌};
 ghost use Rattle.reading.specs.Numbers.{grown, number_of, code_of, plain_code, minus_code};
 
 // A number of at most 64 bits.
-#[derive(Clone, Copy)]
+#[derive(Clone, Copy, PartialEq, Eq, Debug)]
 pub enum Number {
     Value(u64),
     NoNumber,
 }
 
 // A signed code of 32 bits, as its 32 bits.
-#[derive(Clone, Copy)]
+#[derive(Clone, Copy, PartialEq, Eq, Debug)]
 pub enum Code {
     Bits(u32),
     NoCode,
@@ -43,13 +43,11 @@ pub fn read_number(field: &[u8]) -> Number
         return Number::NoNumber;
     }
     let mut number: u64 = 0;
-    let mut i = 0;
-    while i < field.len() {
-        let Number::Value(v) = with_digit(number, field[i]) else {
+    for &b in field {
+        let Number::Value(v) = with_digit(number, b) else {
             return Number::NoNumber;
         };
         number = v;
-        i += 1;
     }
     Number::Value(number)
 }

@@ -3,7 +3,7 @@ ghost use Rattle.std.specs.Prelude.{◌≡◌, [], ◌+◌, ◌-◌, ◌≤◌, 
 ghost use Rattle.reading.specs.Fields.{up_to, fields_of};
 
 // The bytes of a line from one place to another.
-#[derive(Clone, Copy)]
+#[derive(Clone, Copy, PartialEq, Eq, Debug)]
 pub struct Span {
     pub from: usize,
     pub to: usize,
@@ -13,14 +13,12 @@ pub struct Span {
 pub fn end_of(text: &[u8], from: usize, separator: u8) -> usize
     ensures { result ≡ from + up_to separator (drop from text.now) }
 {
-    let mut i = from;
-    while i < text.len() {
+    for i in from..text.len() {
         if text[i] == separator {
             return i;
         }
-        i += 1;
     }
-    i
+    from.max(text.len())
 }
 
 // A field by its number, from 0. A field that is not there reads as an empty one.

@@ -9,8 +9,6 @@ use lib.ListN.{length, take, replicate}
 use Rattle.lists.specs.Lists.{front}
 use Rattle.words.specs.Part.{part}
 use Rattle.answers.specs.declared.Refusal.{Refusal}
-use Rattle.answers.specs.declared.Judged.{Judged}
-use Rattle.answers.specs.declared.Judged.TheVariants as J
 use Rattle.answers.specs.declared.Updated.TheVariants as U
 use Rattle.answers.specs.declared.DagDelta.{DagDelta}
 use Rattle.rules.specs.Tables.{held_width}
@@ -21,6 +19,7 @@ use Rattle.tabled.proofs.Kept.{rows-kept, edges-kept, part-kept}
 use Rattle.delta.specs.Changed.{delta_from, changed_from}
 use Rattle.layout.specs.Laid.{order_at}
 use Rattle.replacing.specs.Stored.{pairs_at, Stored, Finished}
+use Rattle.answers.specs.Answer.{Judged, Accepted, Refused}
 
 -- w₁ is what writing the delta left of w
 module _ (w w₁ : List ℕ) (n e epoch h : ℕ) (a : Areas) (c : Changes) (same : length w₁ ≡ length w) (kept : take (pairs_at n e) w₁ ≡ take (pairs_at n e) w) where
@@ -53,7 +52,7 @@ module _ (w w₁ : List ℕ) (n e epoch h : ℕ) (a : Areas) (c : Changes) (same
       }
 
 module _ (j : Judged) (w : List ℕ) (n e epoch h : ℕ) (a : Areas) (c : Changes) where
-  pub accepted : j ≡ J.Accepted → (d : DagDelta) (w' held' links' order' added' removed' splits' merges' : List ℕ)
+  pub accepted : j ≡ Accepted → (d : DagDelta) (w' held' links' order' added' removed' splits' merges' : List ℕ)
       → Stored w n e epoch h a c d w' held' links' order' added' removed' splits' merges'
       → Finished j w n e epoch h a c (U.Accepted d) w' held' links' order' added' removed' splits' merges'
   accepted told d w' held' links' order' added' removed' splits' merges' s =
@@ -69,7 +68,7 @@ module _ (j : Judged) (w : List ℕ) (n e epoch h : ℕ) (a : Areas) (c : Change
         merges-list = rw told s.merges-list;
       }
 
-  pub refused : (r : Refusal) → j ≡ J.Refused r → (w' : List ℕ) → w' ≡ replicate (length w) 0
+  pub refused : (r : Refusal) → j ≡ Refused r → (w' : List ℕ) → w' ≡ replicate (length w) 0
       → Finished j w n e epoch h a c (U.Refused r) w' a.held a.links a.order c.added c.removed c.splits c.merges
   refused r told w' z =
       record {

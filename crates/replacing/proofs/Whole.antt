@@ -7,11 +7,9 @@ use mathlib.Core.Bool.{Bool, true, false}
 use mathlib.Core.List.{List}
 use lib.ListN.{length}
 use Rattle.answers.specs.declared.Refusal.{Refusal}
-use Rattle.answers.specs.declared.Judged.{Judged}
-use Rattle.answers.specs.declared.Judged.TheVariants as J
 use Rattle.answers.specs.declared.Updated.{Updated}
 use Rattle.answers.specs.declared.Updated.TheVariants as U
-use Rattle.answers.specs.Answer.{refuse0}
+use Rattle.answers.specs.Answer.{Judged, Accepted, Refused}
 use Rattle.types.specs.declared.limits.DagLimits.{DagLimits}
 use Rattle.rules.specs.Model.{Segment, by_id}
 use Rattle.rules.specs.Tables.{row_width, place_width, segments, placements}
@@ -32,6 +30,7 @@ use Rattle.layout.specs.Laid.{Fit, LaidOut}
 use Rattle.layout.specs.Lent.{tables_of, areas_of}
 use Rattle.replacing.specs.Stored.{Room, Storable, stored_from, answer_of, Finished}
 use Rattle.replacing.specs.Lent.{changes_of, Replaced}
+use Rattle.answers.specs.declared.Refusal.TheVariants.{BadTable, NoRoom}
 
 module _ (h g epoch size : ℕ) (limits : DagLimits) (rows edges places work held links order added removed splits merges : List ℕ) where
   abbrev t : Tables
@@ -57,12 +56,12 @@ module _ (h g epoch size : ℕ) (limits : DagLimits) (rows edges places work hel
 
   -- ---- the chain
 
-  is-bad : bad_tables h g t a ≡ true → (rule ≡ refuse0 1) × (past ≡ false)
+  is-bad : bad_tables h g t a ≡ true → (rule ≡ Refused BadTable) × (past ≡ false)
   unfolding replace_rule past_update_room
   is-bad told = (rw told refl, rw told refl)
 
   module _ (good : bad_tables h g t a ≡ false) where
-    is-short : short_to_update h t (length work) a c ≡ true → (rule ≡ refuse0 2) × (past ≡ false)
+    is-short : short_to_update h t (length work) a c ≡ true → (rule ≡ Refused NoRoom) × (past ≡ false)
     unfolding replace_rule past_update_room
     is-short told = (rw (good, told) refl, rw (good, told) refl)
 
@@ -84,7 +83,7 @@ module _ (h g epoch size : ℕ) (limits : DagLimits) (rows edges places work hel
 
   -- ---- before 3 nothing changes
 
-  unchanged : (r : Refusal) (v : Updated) → v ≡ U.Refused r → (rule ≡ J.Refused r) × (past ≡ false)
+  unchanged : (r : Refusal) (v : Updated) → v ≡ U.Refused r → (rule ≡ Refused r) × (past ≡ false)
       → Replaced h g epoch size limits t work a c v work held links order added removed splits merges
   unchanged r v e how =
       record {
@@ -101,13 +100,13 @@ module _ (h g epoch size : ℕ) (limits : DagLimits) (rows edges places work hel
 
   module _ (x : Bool) (said : x ≡ bad_layout rows edges places) where
     -- 1, by the tables that come
-    pub bad : (v : Updated) → x ≡ true → v ≡ U.Refused (record { number = 1; a = 0; b = 0; c = 0; d = 0 })
+    pub bad : (v : Updated) → x ≡ true → v ≡ U.Refused BadTable
         → Replaced h g epoch size limits t work a c v work held links order added removed splits merges
     bad v is e = unchanged _ v e (is-bad (bad-first (sym said ∙ is)))
 
     module _ (fine : x ≡ false) (y : Bool) (asked : y ≡ bad_held held links h g) where
       -- 1, by the tables that are held
-      pub bad-old : (v : Updated) → y ≡ true → v ≡ U.Refused (record { number = 1; a = 0; b = 0; c = 0; d = 0 })
+      pub bad-old : (v : Updated) → y ≡ true → v ≡ U.Refused BadTable
           → Replaced h g epoch size limits t work a c v work held links order added removed splits merges
       bad-old v is e = unchanged _ v e (is-bad (bad-second (sym said ∙ fine) (sym asked ∙ is)))
 
@@ -121,7 +120,7 @@ module _ (h g epoch size : ℕ) (limits : DagLimits) (rows edges places work hel
         short-is = sized
 
         -- 2
-        pub short : (v : Updated) → z ≡ true → v ≡ U.Refused (record { number = 2; a = 0; b = 0; c = 0; d = 0 })
+        pub short : (v : Updated) → z ≡ true → v ≡ U.Refused NoRoom
             → Replaced h g epoch size limits t work a c v work held links order added removed splits merges
         short v is e = unchanged _ v e (is-short good (sym short-is ∙ is))
 
@@ -155,8 +154,8 @@ module _ (h g epoch size : ℕ) (limits : DagLimits) (rows edges places work hel
 
           -- 3 to 35: j was judged in the work area, which was then w
           module _ (j : Judged) (w : List ℕ) (is : j ≡ layout_rule epoch size limits (segments rows edges n) (placements places m))
-              (laid : j ≡ J.Accepted → LaidOut w n (length edges) limits.depth (segments rows edges n) (placements places m)) (same : length w ≡ length work) where
-            pub storable : j ≡ J.Accepted → Storable w n (length edges)
+              (laid : j ≡ Accepted → LaidOut w n (length edges) limits.depth (segments rows edges n) (placements places m)) (same : length w ≡ length work) where
+            pub storable : j ≡ Accepted → Storable w n (length edges)
             storable ok =
                 let covered = (layout-passes epoch size limits (segments rows edges n) (placements places m) (sym is ∙ ok)).coverage in
                 let all : widths_active (by_id (segments rows edges n)) ≤ 65536 = covered-handover (by_id (segments rows edges n)) (active-by_id (segments rows edges n) ∙ covered) in
@@ -183,22 +182,22 @@ module _ (h g epoch size : ℕ) (limits : DagLimits) (rows edges places work hel
             areas-are = go j refl ∙ ap (λ (k : Judged). if_accepted (judged k) (filled limits t a) a) (sym whole)
               where
                 go : (k : Judged) → j ≡ k → if_accepted (judged k) (stored_from w n (length edges) a) a ≡ if_accepted (judged k) (filled limits t a) a
-                go J.Accepted s = areas-laid (laid s)
-                go (J.Refused r) s = refl
+                go Accepted s = areas-laid (laid s)
+                go (Refused r) s = refl
 
             lists-are : if_accepted (judged j) (changed_from before (image_segments w n (length edges)) c) c ≡ if_accepted (judged rule) (changed before (segments_in t) c) c
             lists-are = go j refl ∙ ap (λ (k : Judged). if_accepted (judged k) (changed before (segments_in t) c) c) (sym whole)
               where
                 go : (k : Judged) → j ≡ k → if_accepted (judged k) (changed_from before (image_segments w n (length edges)) c) c ≡ if_accepted (judged k) (changed before (segments_in t) c) c
-                go J.Accepted s = ap (λ (q : List Segment). changed_from before q c) (laid s).imaged.segments ∙ changed-ruled before (segments_in t) c
-                go (J.Refused r) s = refl
+                go Accepted s = ap (λ (q : List Segment). changed_from before q c) (laid s).imaged.segments ∙ changed-ruled before (segments_in t) c
+                go (Refused r) s = refl
 
             answer-is : answer_of j (delta_from epoch before (image_segments w n (length edges))) ≡ updated_of (judged rule) epoch before (segments_in t)
             answer-is = go j refl ∙ ap (λ (k : Judged). updated_of (judged k) epoch before (segments_in t)) (sym whole)
               where
                 go : (k : Judged) → j ≡ k → answer_of k (delta_from epoch before (image_segments w n (length edges))) ≡ updated_of (judged k) epoch before (segments_in t)
-                go J.Accepted s = ap U.Accepted (ap (delta_from epoch before) (laid s).imaged.segments ∙ delta-ruled epoch before (segments_in t))
-                go (J.Refused r) s = refl
+                go Accepted s = ap U.Accepted (ap (delta_from epoch before) (laid s).imaged.segments ∙ delta-ruled epoch before (segments_in t))
+                go (Refused r) s = refl
 
             pub past_room_lem : (v : Updated) (work' held' links' order' added' removed' splits' merges' : List ℕ)
                 → Finished j w n (length edges) epoch h a c v work' held' links' order' added' removed' splits' merges'

@@ -3,8 +3,6 @@
 use Rattle.std.specs.Prelude.{ℕ, ◌+◌, ◌*◌, ◌≤◌, ◌≡◌, List, length, replicate}
 use Rattle.lists.specs.Lists.{front}
 use Rattle.words.specs.Part.{part}
-use Rattle.answers.specs.declared.Judged.{Judged}
-use Rattle.answers.specs.declared.Judged.TheVariants as J
 use Rattle.answers.specs.declared.Updated.{Updated}
 use Rattle.answers.specs.declared.Updated.TheVariants as U
 use Rattle.answers.specs.declared.DagDelta.{DagDelta}
@@ -16,6 +14,7 @@ use Rattle.tabled.specs.Image.{Image, image_rows, image_edges, image_segments}
 use Rattle.paired.specs.Tables.{Rows}
 use Rattle.delta.specs.Changed.{delta_from, changed_from}
 use Rattle.layout.specs.Laid.{order_at}
+use Rattle.answers.specs.Answer.{Judged, Accepted, Refused}
 
 -- the areas and lists have room for n rows with e edge words, beside h held rows that ascend
 pub record Room (n e h : ℕ) (a : Areas) (c : Changes) : Type 0 where
@@ -62,8 +61,8 @@ pub record Stored (w : List ℕ) (n e epoch h : ℕ) (a : Areas) (c : Changes) (
 -- ---- the same by what the judge said: a refusal stores nothing
 
 abbrev pub answer_of : Judged → DagDelta → Updated
-answer_of J.Accepted d = U.Accepted d
-answer_of (J.Refused r) d = U.Refused r
+answer_of Accepted d = U.Accepted d
+answer_of (Refused r) d = U.Refused r
 
 pub record Finished (j : Judged) (w : List ℕ) (n e epoch h : ℕ) (a : Areas) (c : Changes) (answered : Updated) (w' held' links' order' added' removed' splits' merges' : List ℕ) : Type 0 where
   pub answer : answered ≡ answer_of j (delta_from epoch (held_before h a) (image_segments w n e))

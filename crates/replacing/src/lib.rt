@@ -3,12 +3,12 @@
 #![tactic(auto)]
 
 ghost use Rattle.std.specs.Prelude.{◌+◌, ◌*◌, ◌≡◌, length};
-ghost use Rattle.answers.specs.declared.Judged.TheVariants.{Accepted};
+ghost use Rattle.answers.specs.Answer.{Accepted};
 ghost use Rattle.layout.specs.Lent.{tables_of, areas_of};
 ghost use Rattle.replacing.specs.Stored.{Room, Storable, Stored, Finished};
 ghost use Rattle.replacing.specs.Lent.{changes_of, Replaced};
 
-use answers::{DagDelta, Judged, Refusal, Updated};
+use answers::{DagDelta, Refusal, Updated};
 use types::limits::DagLimits;
 
 // The delta is told from the old rows before the new ones are stored over them. Its pairs stand behind the order list, which stays.
@@ -39,7 +39,7 @@ fn accept(
 
 // What was judged in the work area is accepted where the judge accepts; the work area is cleared.
 fn finish(
-    judged: Judged,
+    judged: Result<(), Refusal>,
     w: &mut [u64],
     n: usize,
     e: usize,
@@ -58,27 +58,14 @@ fn finish(
     ensures { Finished judged w.old n e epoch h (areas_of held.old links.old order.old) (changes_of added.old removed.old splits.old merges.old) result w.new held.new links.new order.new added.new removed.new splits.new merges.new }
 {
     match judged {
-        Judged::Accepted => Updated::Accepted(accept(
+        Ok(()) => Updated::Accepted(accept(
             w, n, e, epoch, h, held, links, order, added, removed, splits, merges,
         )),
-        Judged::Refused(r) => {
+        Err(r) => {
             words::clear(w);
             Updated::Refused(r)
         }
     }
-}
-
-// 1 and 2, which carry no values.
-fn refused(number: u64) -> Updated
-    ensures { result ≡ Updated.Refused (record { number = number; a = 0; b = 0; c = 0; d = 0 }) }
-{
-    Updated::Refused(Refusal {
-        number,
-        a: 0,
-        b: 0,
-        c: 0,
-        d: 0,
-    })
 }
 
 // The layout of that epoch and size, where h rows and g edge words are held. 1 and 2 leave every lent word as it was; past them the work area
@@ -104,10 +91,10 @@ pub fn replace(
     ensures { Replaced h g epoch size limits (tables_of rows.now edges.now places.now) work.old (areas_of held.old links.old order.old) (changes_of added.old removed.old splits.old merges.old) result work.new held.new links.new order.new added.new removed.new splits.new merges.new }
 {
     if shape::tables::is_bad_layout(rows, edges, places) {
-        return refused(1);
+        return Updated::Refused(Refusal::BadTable);
     }
     if shape::tables::is_bad_held(held, links, h, g) {
-        return refused(1);
+        return Updated::Refused(Refusal::BadTable);
     }
     let n = rows.len() / rules::ROW;
     let m = places.len() / rules::PLACE;
@@ -125,7 +112,7 @@ pub fn replace(
         edges.len(),
         h,
     ) {
-        return refused(2);
+        return Updated::Refused(Refusal::NoRoom);
     }
     let judged = layout::judge_in(work, epoch, size, limits, rows, n, edges, places, m);
     finish(

@@ -3,7 +3,7 @@ ghost use Rattle.std.specs.Prelude.{◌≤◌, ◌≡◌, length};
 
 use crate::line::{Part, ROOM};
 use crate::{line, names};
-use answers::Judged;
+use answers::Refusal;
 
 // The first thing that is not as expected, by its number in names.rt, 0 where all is as expected. Place 0 is its length, the words count from 1.
 #[derive(Clone, Copy)]
@@ -158,7 +158,7 @@ pub fn compare_numbers(
 }
 
 // A judgement: its number, 0 where accepted, and its values.
-pub fn compare_refusal(judged: Judged, line: &[u64], at: usize) -> Difference {
+pub fn compare_refusal(judged: Result<(), Refusal>, line: &[u64], at: usize) -> Difference {
     let r = crossing::answer::refusal_of(judged);
     let words = [r.number, r.a, r.b, r.c, r.d];
     compare_numbers(NONE, names::ANSWER, &words, line, at)

@@ -3,10 +3,8 @@
 use crate::areas::Difference;
 use crate::line::number_at;
 use crate::{areas, line, names};
-use answers::Refusal;
-use types::records::{
-    Broker, Described, Optional, Placed, SegmentDescriptor, SegmentId, SegmentInfo,
-};
+use answers::{Refusal, RefusalWords};
+use types::records::{Broker, Optional, SegmentDescriptor, SegmentId, SegmentInfo};
 
 const ANSWER: usize = 17;
 
@@ -33,11 +31,11 @@ fn info_of(line: &[u64]) -> SegmentInfo {
     }
 }
 
-fn placed_of(line: &[u64]) -> Placed {
+fn placed_of(line: &[u64]) -> Option<Broker> {
     if number_at(line, 12) == 0 {
-        return Placed::Nowhere;
+        return None;
     }
-    Placed::At(Broker {
+    Some(Broker {
         id: SegmentId(number_at(line, 13)),
         url: number_at(line, 14),
         tls: optional_at(line, 15),
@@ -45,6 +43,7 @@ fn placed_of(line: &[u64]) -> Placed {
 }
 
 fn compare_refused(r: Refusal, line: &[u64]) -> Difference {
+    let r = RefusalWords::from(r);
     let words = [
         r.number, r.a, r.b, r.c, r.d, 0, 0, 0, 0, 0, 0, 0, 0, 0, 0, 0, 0, 0, 0, 0,
     ];
@@ -83,7 +82,7 @@ pub fn replay(line: &[u64]) -> Difference {
         return areas::UNREAD;
     }
     match segment::descriptor::describe(info_of(line), placed_of(line)) {
-        Described::Refused(r) => compare_refused(r, line),
-        Described::Descriptor(s) => compare_descriptor(s, line),
+        Err(r) => compare_refused(r, line),
+        Ok(s) => compare_descriptor(s, line),
     }
 }

@@ -16,12 +16,13 @@ use Rattle.lists.specs.Sets.{Ascending}
 use Rattle.lists.proofs.Cases.{lt-or-le, eq-or-ne}
 use Rattle.lists.proofs.SortLaws.{true-or-false}
 use Rattle.lists.proofs.SetLaws.{never, here, here_eq, there, in-cons, in_left, in_right}
-use Rattle.answers.specs.declared.Judged.TheVariants.{Accepted}
-use Rattle.answers.specs.Answer.{when, refuse1, refuse2}
+use Rattle.answers.specs.Answer.{when, Accepted, Refused}
 use Rattle.answers.proofs.Judging.{then-both, when-not}
 use Rattle.types.specs.declared.limits.DagLimits.{DagLimits}
 use Rattle.rules.specs.Model.{Segment, Placement, ids_of, lookup, id_le, by_id}
-use Rattle.rules.specs.Rows.{size_rule, placements_rule, items_from, list_rule, lists_rule, head_rule, row_rule, counted_rule, rows_from, rows_rule, dangling_rule}
+use Rattle.types.specs.declared.records.Side.{Side}
+use Rattle.types.specs.declared.records.Side.TheVariants.{Parents, Children}
+use Rattle.rules.specs.Rows.{size_rule, placements_rule, duplicate, items_from, list_rule, lists_rule, head_rule, row_rule, counted_rule, rows_from, rows_rule, dangling_rule}
 use Rattle.rules.specs.Edges.{parent_found, parent_known, parent_rule, child_found, child_known, child_rule, parents_rule, children_rule, links_rule, links_from, edges_rule}
 use Rattle.rules.specs.Order.{node_of, Ordered, in_order, too_deep, cyclic, order_from, order_of, ordered_rule, order_rule}
 use Rattle.rules.specs.Tiling.{transitions_rule, active_of, coverage_rule}
@@ -31,35 +32,36 @@ use Rattle.rules.specs.Ordering.{parents_in}
 use Rattle.rules.specs.Reading as Reading
 use Rattle.rules.proofs.Ascended.{lookup-by_id, has-by_id, links-by_id, length-by_id, parents-lookup}
 use Rattle.rules.proofs.Taken.{times, times-in, in-times, Reciprocal, Taken, order-taken}
+use Rattle.answers.specs.declared.Refusal.TheVariants.{SelfEdge, DuplicateSegment, NonReciprocalEdge}
 
 -- ---- no repeats in an edge list
 
-seen_none : (number id z : ℕ) (before l : List ℕ) → items_from number id before l ≡ Accepted → z ∈ before → times z l ≡ 0
+seen_none : (side : Side) (id z : ℕ) (before l : List ℕ) → items_from side id before l ≡ Accepted → z ∈ before → times z l ≡ 0
 unfolding items_from
-seen_none number id z before [] e h = refl
-seen_none number id z before (x ∷ xs) e h =
-    let a = then-both (when (eqb x id) (refuse1 19 id)) _ e in
-    let b = then-both (when (has x before) (refuse2 number id x)) _ a.1 in
+seen_none side id z before [] e h = refl
+seen_none side id z before (x ∷ xs) e h =
+    let a = then-both (when (eqb x id) (Refused (SelfEdge id))) _ e in
+    let b = then-both (when (has x before) (Refused (duplicate side id x))) _ a.1 in
     let fresh : x ∉ before = when-not (has x before) _ b.0 in
     let other : x ≡ z → ⊥ = λ q. never (sym fresh ∙ (ap (λ (k : ℕ). has k before) q ∙ h)) in
-    omega (arith, ap tick (ne_eqb x z other), seen_none number id z (before ++ (x ∷ [])) xs b.1 (in_left z before (x ∷ []) h))
+    omega (arith, ap tick (ne_eqb x z other), seen_none side id z (before ++ (x ∷ [])) xs b.1 (in_left z before (x ∷ []) h))
 
-items-once : (number id z : ℕ) (before l : List ℕ) → items_from number id before l ≡ Accepted → times z l ≤ 1
+items-once : (side : Side) (id z : ℕ) (before l : List ℕ) → items_from side id before l ≡ Accepted → times z l ≤ 1
 unfolding items_from
-items-once number id z before [] e = zero-le
-items-once number id z before (x ∷ xs) e =
-    let a = then-both (when (eqb x id) (refuse1 19 id)) _ e in
-    let b = then-both (when (has x before) (refuse2 number id x)) _ a.1 in
+items-once side id z before [] e = zero-le
+items-once side id z before (x ∷ xs) e =
+    let a = then-both (when (eqb x id) (Refused (SelfEdge id))) _ e in
+    let b = then-both (when (has x before) (Refused (duplicate side id x))) _ a.1 in
     ⊎_elim
     (λ (q : x ≡ z).
     let held : z ∈ (before ++ (x ∷ [])) = in_right z before (x ∷ []) (rw (← q) (here x [])) in
-    omega (arith, ap tick (eq-eqb x z q), seen_none number id z (before ++ (x ∷ [])) xs b.1 held))
-    (λ (q : x ≡ z → ⊥). omega (arith, ap tick (ne_eqb x z q), items-once number id z (before ++ (x ∷ [])) xs b.1))
+    omega (arith, ap tick (eq-eqb x z q), seen_none side id z (before ++ (x ∷ [])) xs b.1 held))
+    (λ (q : x ≡ z → ⊥). omega (arith, ap tick (ne_eqb x z q), items-once side id z (before ++ (x ∷ [])) xs b.1))
     (eq-or-ne x z)
 
-pub list-once : (number id z : ℕ) (l : List ℕ) → list_rule number id l ≡ Accepted → times z l ≤ 1
+pub list-once : (side : Side) (id z : ℕ) (l : List ℕ) → list_rule side id l ≡ Accepted → times z l ≤ 1
 unfolding list_rule
-list-once number id z l e = items-once number id z [] l e
+list-once side id z l e = items-once side id z [] l e
 
 -- ---- the rows
 
@@ -74,7 +76,7 @@ module _ (layout limit : ℕ) where
   unfolding rows_from counted_rule
   row-passed seen p c s ss e =
       let a = then-both (counted_rule layout limit seen (p + length s.parents) (c + length s.children) s) _ e in
-      let b = then-both (when (has s.head.id seen) (refuse1 8 s.head.id)) _ a.0 in
+      let b = then-both (when (has s.head.id seen) (Refused (DuplicateSegment s.head.id))) _ a.0 in
       let d = then-both (row_rule layout s) _ b.1 in
       record { new = when-not (has s.head.id seen) _ b.0; row = d.0; rest = a.1 }
 
@@ -115,8 +117,8 @@ pub lists-once : (layout limit x z : ℕ) (ss : List Segment) (s : Segment) → 
 unfolding rows_rule row_rule lists_rule
 lists-once layout limit x z ss s e f =
     let a = then-both (head_rule layout s.head (length s.children)) _ (row_of layout limit x 0 0 [] ss e s f) in
-    let b = then-both (list_rule 20 s.head.id s.parents) _ a.1 in
-    (list-once 20 s.head.id z s.parents b.0, list-once 21 s.head.id z s.children b.1)
+    let b = then-both (list_rule Parents s.head.id s.parents) _ a.1 in
+    (list-once Parents s.head.id z s.parents b.0, list-once Children s.head.id z s.children b.1)
 
 -- ---- ids that ascend
 
@@ -204,7 +206,7 @@ unfolding parent_rule parent_known parent_found
 parent-known S s p e = go (lookup p S) refl e
   where
     pass : (q : Segment) → parent_found s q ≡ Accepted → s.head.id ∈ q.children
-    pass q k = let a = then-both (when (not (has s.head.id q.children)) (refuse2 25 q.head.id s.head.id)) _ k in not-false (has s.head.id q.children) (when-not _ _ a.0)
+    pass q k = let a = then-both (when (not (has s.head.id q.children)) (Refused (NonReciprocalEdge q.head.id s.head.id))) _ k in not-false (has s.head.id q.children) (when-not _ _ a.0)
 
     go : (o : Option Segment) → lookup p S ≡ o → parent_known s p o ≡ Accepted → (q : Segment) × (lookup p S ≡ some q) × (s.head.id ∈ q.children)
     go none f k = let z : ◌≡◌ {A = ℕ} 0 1 = cc in absurd (omega arith)
@@ -216,7 +218,7 @@ unfolding child_rule child_known child_found
 child-known S s c e = go (lookup c S) refl e
   where
     pass : (q : Segment) → child_found s q ≡ Accepted → s.head.id ∈ q.parents
-    pass q k = let a = then-both (when (not (has s.head.id q.parents)) (refuse2 25 s.head.id q.head.id)) _ k in not-false (has s.head.id q.parents) (when-not _ _ a.0)
+    pass q k = let a = then-both (when (not (has s.head.id q.parents)) (Refused (NonReciprocalEdge s.head.id q.head.id))) _ k in not-false (has s.head.id q.parents) (when-not _ _ a.0)
 
     go : (o : Option Segment) → lookup c S ≡ o → child_known s c o ≡ Accepted → (q : Segment) × (lookup c S ≡ some q) × (s.head.id ∈ q.parents)
     go none f k = let z : ◌≡◌ {A = ℕ} 0 1 = cc in absurd (omega arith)

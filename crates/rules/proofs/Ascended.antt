@@ -20,6 +20,8 @@ use Rattle.types.specs.declared.limits.DagLimits.{DagLimits}
 use Rattle.rules.specs.Model.{Segment, id_of, ids_of, lookup, id_le, by_id}
 use Rattle.rules.specs.Edges.{parent_rule, parents_rule, child_rule, children_rule, links_rule, links_from, edges_rule}
 use Rattle.rules.specs.Order.{order_of, order_rule}
+use Rattle.types.specs.declared.records.Side.{Side}
+use Rattle.types.specs.declared.records.Side.TheVariants.{Parents, Children}
 use Rattle.rules.specs.Tiling.{range_of, ranges_of, tiling_rule, all_single, one_merged, split_rule, fork_rule, forks_from, join_rule, joins_from, transitions_rule, active_of, walked, coverage_rule}
 use Rattle.rules.specs.Layout.{graph_rule}
 use Rattle.rules.specs.Ancestors.{parents_of}
@@ -79,9 +81,9 @@ module _ (ss ts : List Segment) (same : (x : ℕ) → lookup x ss ≡ lookup x t
   ranges-same [] = refl
   ranges-same (x ∷ l) = rw (same x, ranges-same l) refl
 
-  tiling-same : (number : ℕ) (s : Segment) (l : List ℕ) → tiling_rule number ss s l ≡ tiling_rule number ts s l
+  tiling-same : (side : Side) (s : Segment) (l : List ℕ) → tiling_rule side ss s l ≡ tiling_rule side ts s l
   unfolding tiling_rule
-  tiling-same number s l = rw (ranges-same l) refl
+  tiling-same side s l = rw (ranges-same l) refl
 
   single-same : (l : List ℕ) → all_single ss l ≡ all_single ts l
   unfolding all_single
@@ -98,12 +100,12 @@ module _ (ss ts : List Segment) (same : (x : ℕ) → lookup x ss ≡ lookup x t
   unfolding forks_from fork_rule split_rule
   forks-same [] = refl
   forks-same (p ∷ l) =
-      rw (single-same p.children, merged-same p.children, tiling-same 31 p p.children, forks-same l) refl
+      rw (single-same p.children, merged-same p.children, tiling-same Children p p.children, forks-same l) refl
 
   pub joins-same : (l : List Segment) → joins_from ss l ≡ joins_from ts l
   unfolding joins_from join_rule
   joins-same [] = refl
-  joins-same (c ∷ l) = rw (tiling-same 32 c c.parents, joins-same l) refl
+  joins-same (c ∷ l) = rw (tiling-same Parents c c.parents, joins-same l) refl
 
 pub links-by_id : (ss l : List Segment) → links_from (by_id ss) l ≡ links_from ss l
 links-by_id ss l = links-same (by_id ss) ss (λ x. lookup-by_id x ss) l

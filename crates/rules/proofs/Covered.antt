@@ -12,8 +12,7 @@ use Rattle.lists.specs.Lists.{tick}
 use Rattle.lists.specs.Sort.{Row}
 use Rattle.lists.proofs.SortLaws.{true-or-false, In}
 use Rattle.lists.proofs.RowOrder.{no}
-use Rattle.answers.specs.declared.Judged.TheVariants.{Accepted}
-use Rattle.answers.specs.Answer.{number_of}
+use Rattle.answers.specs.Answer.{number_of, Accepted}
 use Rattle.rules.specs.declared.Walked.{Walked}
 use Rattle.rules.specs.declared.Walked.TheVariants.{Tiled, Broken, Short}
 use Rattle.rules.specs.Tiling.{inside, holders, widths, Tiles, walked, is_tiled, tiles, walked_rule, coverage_rule}

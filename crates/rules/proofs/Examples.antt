@@ -8,6 +8,7 @@ use mathlib.Core.List.{List, [], ◌∷◌, ◌++◌}
 use lib.ListN.{replicate}
 use Rattle.lists.specs.Sort.{le3}
 use Rattle.lists.specs.Sets.{keep}
+use Rattle.answers.specs.declared.Refusal.TheVariants.{NoActiveSegments, ActiveCoverageEnd, ActiveCoverageDiscontinuity, StartOutOfBounds, EmptyLegacyTopic, DuplicatePlacement, Cycle, Depth}
 use Rattle.answers.specs.declared.Updated.{Updated}
 use Rattle.answers.specs.declared.Updated.TheVariants.{Refused, Stale, Accepted}
 use Rattle.answers.specs.declared.DagChangeReason.TheVariants.{Split, Unknown}
@@ -82,9 +83,6 @@ lists added removed splits merges = record { added = added; removed = removed; s
 abbrev untouched : Changes
 untouched = lists (spare 3) (spare 2) (spare 8) (spare 8)
 
-abbrev refused : ℕ → ℕ → ℕ → ℕ → Updated
-refused number a b c = Refused (record { number = number; a = a; b = b; c = c; d = 0 })
-
 -- ---- the table
 
 record Case : Type 0 where
@@ -118,25 +116,25 @@ cases =
     (Accepted (record { epoch = 0; added = 1; removed = 0; splits = 0; merges = 0; reason = Unknown; handover = 65536 }))
     (lists (1 ∷ 88 ∷ 88 ∷ []) (spare 2) (spare 8) (spare 8))
     -- no rows: 33
-    ∷ refused_first 0 default_limits (tables [] [] []) (refused 33 0 0 0)
+    ∷ refused_first 0 default_limits (tables [] [] []) (Refused NoActiveSegments)
     -- 0..65534 alone: 35 (65534, 65535)
-    ∷ refused_first 0 default_limits (tables (active 1 0 65534 0 0 0) [] []) (refused 35 65534 65535 0)
+    ∷ refused_first 0 default_limits (tables (active 1 0 65534 0 0 0) [] []) (Refused (ActiveCoverageEnd 65534 65535))
     -- ids 1 and 2 both 0..65535: 34 (65535, 0, 2)
-    ∷ refused_first 0 default_limits (tables (active 1 0 65535 0 0 0 ++ active 2 0 65535 0 0 0) [] []) (refused 34 65535 0 2)
+    ∷ refused_first 0 default_limits (tables (active 1 0 65535 0 0 0 ++ active 2 0 65535 0 0 0) [] []) (Refused (ActiveCoverageDiscontinuity 65535 0 2))
     -- start 65536, end 65535: 10
-    ∷ refused_first 0 default_limits (tables (active 1 65536 65535 0 0 0) [] []) (refused 10 1 65536 0)
+    ∷ refused_first 0 default_limits (tables (active 1 65536 65535 0 0 0) [] []) (Refused (StartOutOfBounds 1 65536))
     -- empty legacy and bad range: 9
-    ∷ refused_first 0 default_limits (tables (1 ∷ 65536 ∷ 65535 ∷ 1 ∷ 0 ∷ 0 ∷ 0 ∷ 1 ∷ 0 ∷ 0 ∷ 0 ∷ []) [] []) (refused 9 1 0 0)
+    ∷ refused_first 0 default_limits (tables (1 ∷ 65536 ∷ 65535 ∷ 1 ∷ 0 ∷ 0 ∷ 0 ∷ 1 ∷ 0 ∷ 0 ∷ 0 ∷ []) [] []) (Refused (EmptyLegacyTopic 1))
     -- two placements of one id, the second with an empty URL: 6
-    ∷ refused_first 0 default_limits (tables (active 1 0 65535 0 0 0) [] (1 ∷ 5 ∷ 0 ∷ 0 ∷ 1 ∷ 0 ∷ 0 ∷ 0 ∷ [])) (refused 6 1 0 0)
+    ∷ refused_first 0 default_limits (tables (active 1 0 65535 0 0 0) [] (1 ∷ 5 ∷ 0 ∷ 0 ∷ 1 ∷ 0 ∷ 0 ∷ 0 ∷ [])) (Refused (DuplicatePlacement 1))
     -- two Sealed, created and sealed at 1, layout 1, each the other's parent and child, both 0..65535: 29
-    ∷ refused_first 1 default_limits (tables (sealed 1 0 65535 1 1 1 1 ++ sealed 2 0 65535 1 1 1 1) (2 ∷ 2 ∷ 1 ∷ 1 ∷ []) []) (refused 29 0 0 0)
+    ∷ refused_first 1 default_limits (tables (sealed 1 0 65535 1 1 1 1 ++ sealed 2 0 65535 1 1 1 1) (2 ∷ 2 ∷ 1 ∷ 1 ∷ []) []) (Refused Cycle)
     -- limit depth 1: chain of two accepted
     ∷ first 1 depth_one (tables (sealed 1 0 65535 0 1 0 1 ++ active 2 0 65535 1 1 0) (2 ∷ 1 ∷ []) [])
     (Accepted (record { epoch = 1; added = 2; removed = 0; splits = 0; merges = 0; reason = Unknown; handover = 65536 }))
     (lists (1 ∷ 2 ∷ 88 ∷ []) (spare 2) (spare 8) (spare 8))
     -- limit depth 1: chain of three 28 (2, 1)
-    ∷ refused_first 2 depth_one (tables (sealed 1 0 65535 0 1 0 1 ++ (sealed 2 0 65535 1 2 1 1 ++ active 3 0 65535 2 1 0)) (2 ∷ 1 ∷ 3 ∷ 2 ∷ []) []) (refused 28 2 1 0)
+    ∷ refused_first 2 depth_one (tables (sealed 1 0 65535 0 1 0 1 ++ (sealed 2 0 65535 1 2 1 1 ++ active 3 0 65535 2 1 0)) (2 ∷ 1 ∷ 3 ∷ 2 ∷ []) []) (Refused (Depth 2 1))
     -- held epoch 3, empty layout of epoch 3: stale
     ∷ record {
       before = session true 3 1;

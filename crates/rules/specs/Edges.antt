@@ -4,25 +4,24 @@
 use Rattle.std.specs.Prelude.{ℕ, not, List, [], ◌∷◌, eqb}
 use Rattle.std.proofs.Math.Option.{Option, none, some}
 use Rattle.lists.specs.Lists.{has}
-use Rattle.answers.specs.declared.Judged.{Judged}
-use Rattle.answers.specs.declared.Judged.TheVariants.{Accepted}
-use Rattle.answers.specs.Answer.{when, refuse2, refuse4, ◌then◌}
+use Rattle.answers.specs.Answer.{when, ◌then◌, Judged, Accepted, Refused}
 use Rattle.rules.specs.Model.{Segment, lookup, by_id}
+use Rattle.answers.specs.declared.Refusal.TheVariants.{EdgeEpochMismatch, NonReciprocalEdge, DanglingParent, DanglingChild}
 
 -- 26 (parent, child, sealed or 0, created)
 unfoldable pub epoch_rule : ℕ → ℕ → Option ℕ → ℕ → Judged
-epoch_rule parent child none created = refuse4 26 parent child 0 created
-epoch_rule parent child (some sealed) created = when (not (eqb sealed created)) (refuse4 26 parent child sealed created)
+epoch_rule parent child none created = Refused (EdgeEpochMismatch parent child 0 created)
+epoch_rule parent child (some sealed) created = when (not (eqb sealed created)) (Refused (EdgeEpochMismatch parent child sealed created))
 
 -- 25 (parent, child), then 26, where the parent p of s has a row
 unfoldable pub parent_found : Segment → Segment → Judged
 parent_found s p =
-    when (not (has s.head.id p.children)) (refuse2 25 p.head.id s.head.id) then
+    when (not (has s.head.id p.children)) (Refused (NonReciprocalEdge p.head.id s.head.id)) then
     epoch_rule p.head.id s.head.id p.head.sealed s.head.created
 
 -- 24 (id, parent)
 unfoldable pub parent_known : Segment → ℕ → Option Segment → Judged
-parent_known s parent none = refuse2 24 s.head.id parent
+parent_known s parent none = Refused (DanglingParent s.head.id parent)
 parent_known s parent (some p) = parent_found s p
 
 unfoldable pub parent_rule : List Segment → Segment → ℕ → Judged
@@ -31,12 +30,12 @@ parent_rule ss s parent = parent_known s parent (lookup parent ss)
 -- 25 (parent, child), where the child c of s has a row
 unfoldable pub child_found : Segment → Segment → Judged
 child_found s c =
-    when (not (has s.head.id c.parents)) (refuse2 25 s.head.id c.head.id) then
+    when (not (has s.head.id c.parents)) (Refused (NonReciprocalEdge s.head.id c.head.id)) then
     Accepted
 
 -- 27 (id, child)
 unfoldable pub child_known : Segment → ℕ → Option Segment → Judged
-child_known s child none = refuse2 27 s.head.id child
+child_known s child none = Refused (DanglingChild s.head.id child)
 child_known s child (some c) = child_found s c
 
 unfoldable pub child_rule : List Segment → Segment → ℕ → Judged

@@ -4,9 +4,7 @@
 -- Assumes nothing.
 use Rattle.std.specs.Prelude.{ℕ, ◌/◌, Bool, cond, not, ◌&&◌, List, length, replicate}
 use Rattle.lists.specs.Lists.{front}
-use Rattle.answers.specs.declared.Judged.{Judged}
-use Rattle.answers.specs.declared.Judged.TheVariants.{Accepted, Refused}
-use Rattle.answers.specs.Answer.{when, ◌then◌, refuse0}
+use Rattle.answers.specs.Answer.{when, ◌then◌, Judged, Accepted, Refused}
 use Rattle.types.specs.declared.limits.DagLimits.{DagLimits}
 use Rattle.rules.specs.Model.{Segment, Placement}
 use Rattle.rules.specs.Tables.{row_width, place_width, segments, placements, held_rows, held_edges}
@@ -14,6 +12,7 @@ use Rattle.rules.specs.Shape.{bad_layout}
 use Rattle.rules.specs.Room.{no_room_to_judge}
 use Rattle.rules.specs.Order.{order_of, order_words}
 use Rattle.rules.specs.Layout.{layout_rule}
+use Rattle.answers.specs.declared.Refusal.TheVariants.{BadTable, NoRoom}
 
 -- the input tables of a layout
 pub record Tables : Type 0 where
@@ -41,8 +40,8 @@ short_to_judge t work a =
 -- 1, 2, 3 to 35; `work` is the length of the work area
 unfoldable pub judgement : ℕ → ℕ → DagLimits → Tables → ℕ → Areas → Judged
 judgement epoch size limits t work a =
-    when (bad_layout t.rows t.edges t.places) (refuse0 1) then
-    when (short_to_judge t work a) (refuse0 2) then
+    when (bad_layout t.rows t.edges t.places) (Refused BadTable) then
+    when (short_to_judge t work a) (Refused NoRoom) then
     layout_rule epoch size limits (segments_in t) (placements_in t)
 
 -- what is held once the layout is accepted

@@ -1,8 +1,7 @@
 -- Document 01, "Order of checks", the whole of a layout after 1 and 2: the first refusal of this chain.
 -- Assumes nothing.
 use Rattle.std.specs.Prelude.{ℕ, List, length}
-use Rattle.answers.specs.declared.Judged.{Judged}
-use Rattle.answers.specs.Answer.{◌then◌}
+use Rattle.answers.specs.Answer.{◌then◌, Judged}
 use Rattle.types.specs.declared.limits.DagLimits.{DagLimits}
 use Rattle.rules.specs.Model.{Segment, Placement}
 use Rattle.rules.specs.Rows.{size_rule, placements_rule, rows_rule, dangling_rule}

@@ -3,10 +3,9 @@
 -- Assumes nothing.
 use Rattle.std.specs.Prelude.{ℕ, zero, suc, ◌+◌, ◌-◌, max, Bool, true, false, cond, List, [], ◌∷◌, ◌++◌, map, eqb, ltb, length}
 use Rattle.std.proofs.Math.Option.{Option, none, some}
-use Rattle.answers.specs.declared.Judged.{Judged}
-use Rattle.answers.specs.declared.Judged.TheVariants.{Accepted}
-use Rattle.answers.specs.Answer.{refuse0, refuse2}
+use Rattle.answers.specs.Answer.{Judged, Accepted, Refused}
 use Rattle.rules.specs.Model.{Segment, by_id}
+use Rattle.answers.specs.declared.Refusal.TheVariants.{Depth, Cycle}
 
 -- a segment while the order is made: how many parents are still to be taken before it, its depth so far, and whether it is ready
 pub record Node : Type 0 where
@@ -98,8 +97,8 @@ order_of limit ss = order_from limit (length ss) [] (map node_of (by_id ss))
 -- 28 (actual, max), 29
 unfoldable pub ordered_rule : ℕ → Ordered → Judged
 ordered_rule limit (in_order xs) = Accepted
-ordered_rule limit (too_deep e) = refuse2 28 e limit
-ordered_rule limit cyclic = refuse0 29
+ordered_rule limit (too_deep e) = Refused (Depth e limit)
+ordered_rule limit cyclic = Refused Cycle
 
 unfoldable pub order_rule : ℕ → List Segment → Judged
 order_rule limit ss = ordered_rule limit (order_of limit ss)

@@ -6,12 +6,10 @@ use Rattle.lists.specs.Lists as Lists
 use Rattle.lists.specs.Lists.{has, front}
 use Rattle.lists.specs.Sets.{keep}
 use Rattle.answers.specs.declared.Refusal.{Refusal}
-use Rattle.answers.specs.declared.Judged.{Judged}
-use Rattle.answers.specs.declared.Judged.TheVariants as J
 use Rattle.answers.specs.declared.Eligibility.{Eligibility}
 use Rattle.answers.specs.declared.Eligibility.TheVariants as E
 use Rattle.answers.specs.declared.Ordering.{Ordering}
-use Rattle.answers.specs.Answer.{when, ◌then◌, refuse0, refuse1}
+use Rattle.answers.specs.Answer.{when, ◌then◌, Judged, Accepted, Refused}
 use Rattle.types.specs.declared.records.OrderingMode.{OrderingMode}
 use Rattle.types.specs.declared.records.OrderingMode.TheVariants.{Strict, BrokerManaged}
 use Rattle.rules.specs.Model.{Segment, ids_of, lookup}
@@ -19,6 +17,7 @@ use Rattle.rules.specs.Tables.{held_segments}
 use Rattle.rules.specs.Shape.{bad_held}
 use Rattle.rules.specs.Room.{no_room_to_order}
 use Rattle.rules.specs.Ancestors.{parents_of, created_of, ancestors, family, references_read}
+use Rattle.answers.specs.declared.Refusal.TheVariants.{BadTable, NoRoom, UnknownSegment}
 
 -- ---- the rule, over the held segments
 
@@ -73,7 +72,7 @@ ordering S mode c history completed =
 
 -- the by-value answer, what is written to the front of each ordering list, and the count
 abbrev pub told_of : Answer → Eligibility
-told_of (unknown c) = E.Refused (record { number = 50; a = c; b = 0; c = 0; d = 0 })
+told_of (unknown c) = E.Refused (UnknownSegment c)
 told_of (unprovable c xs n) = E.Unprovable c (length xs)
 told_of (blocked xs rs n) = E.Blocked (length xs) (length rs)
 told_of (eligible n) = E.Eligible
@@ -126,9 +125,9 @@ pub record Lent : Type 0 where
 -- 1, 2
 unfoldable pub query_rule : List ℕ → List ℕ → ℕ → ℕ → Lent → Judged
 query_rule rows edges h g lent =
-    when (bad_held rows edges h g) (refuse0 1) then
-    when (no_room_to_order lent.work (length lent.first) (length lent.second) h g) (refuse0 2) then
-    J.Accepted
+    when (bad_held rows edges h g) (Refused BadTable) then
+    when (no_room_to_order lent.work (length lent.first) (length lent.second) h g) (Refused NoRoom) then
+    Accepted
 
 -- an answer of the rule where the tables and the room are good
 pub data Asked : Type 0 where
@@ -136,8 +135,8 @@ pub data Asked : Type 0 where
   answered : Answer → Asked
 
 abbrev pub asked_after : Judged → Answer → Asked
-asked_after J.Accepted a = answered a
-asked_after (J.Refused r) a = refused_at r
+asked_after Accepted a = answered a
+asked_after (Refused r) a = refused_at r
 
 unfoldable pub query : List ℕ → List ℕ → ℕ → ℕ → OrderingMode → ℕ → List ℕ → List ℕ → Lent → Asked
 query rows edges h g mode c history completed lent =
@@ -174,9 +173,9 @@ permits_flow (E.BrokerManaged m) = true
 
 unfoldable pub known_rule : List ℕ → List ℕ → ℕ → ℕ → ℕ → Judged
 known_rule rows edges h g id =
-    when (bad_held rows edges h g) (refuse0 1) then
-    when (not (has id (ids_of (held_segments rows edges h)))) (refuse1 50 id) then
-    J.Accepted
+    when (bad_held rows edges h g) (Refused BadTable) then
+    when (not (has id (ids_of (held_segments rows edges h)))) (Refused (UnknownSegment id)) then
+    Accepted
 
 abbrev pub parents_in : Option Segment → List ℕ
 parents_in none = []
@@ -187,8 +186,8 @@ children_in none = []
 children_in (some s) = s.children
 
 abbrev pub where_good : Judged → List ℕ → List ℕ
-where_good J.Accepted l = l
-where_good (J.Refused r) l = []
+where_good Accepted l = l
+where_good (Refused r) l = []
 
 unfoldable pub parent_stretch : List ℕ → List ℕ → ℕ → ℕ → ℕ → List ℕ
 parent_stretch rows edges h g id = where_good (known_rule rows edges h g id) (parents_in (lookup id (held_segments rows edges h)))

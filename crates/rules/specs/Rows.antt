@@ -4,26 +4,29 @@ use Rattle.std.specs.Prelude.{ℕ, ◌+◌, max, Bool, false, not, ◌||◌, Lis
 use Rattle.std.proofs.Math.Option.{Option, none, some}
 use Rattle.lists.specs.Lists.{has}
 use Rattle.lists.specs.Sort.{sorted}
-use Rattle.answers.specs.declared.Judged.{Judged}
-use Rattle.answers.specs.declared.Judged.TheVariants.{Accepted}
-use Rattle.answers.specs.Answer.{when, refuse1, refuse2, refuse3, refuse4, by_number, ◌then◌}
+use Rattle.answers.specs.Answer.{when, ◌then◌, Judged, Accepted, Refused}
 use Rattle.types.specs.declared.limits.DagLimits.{DagLimits}
 use Rattle.types.specs.declared.range.Made.{Made}
-use Rattle.types.specs.Range.{range_of, range_number, range_values}
+use Rattle.types.specs.declared.range.Made.TheVariants as M
+use Rattle.types.specs.Range.{range_of}
+use Rattle.types.specs.declared.records.Side.{Side}
+use Rattle.types.specs.declared.records.Side.TheVariants.{Parents, Children}
 use Rattle.types.specs.declared.state.SegmentState.{SegmentState}
 use Rattle.types.specs.declared.state.SegmentState.TheVariants.{Active, Sealed}
 use Rattle.types.specs.declared.state.StateRead.{StateRead}
 use Rattle.types.specs.declared.state.StateRead.TheVariants.{Known, Unknown}
-use Rattle.types.specs.State.{state_of, state_number, state_values}
+use Rattle.types.specs.State.{state_of}
 use Rattle.rules.specs.Model.{Head, Segment, Placement, ids_of}
+use Rattle.answers.specs.declared.Refusal.{Refusal}
+use Rattle.answers.specs.declared.Refusal.TheVariants.{StartOutOfBounds, EndOutOfBounds, Reversed, UnknownState, DuplicateParent, DuplicateChild, SerializedSize, SegmentCount, PlacementCount, DuplicatePlacement, EmptyPlacementUrl, EmptyLegacyTopic, ActiveWithSealEpoch, ActiveWithChildren, SealedWithoutEpoch, InvalidSealEpoch, CreatedAfterLayout, SelfEdge, EdgeCount, DuplicateSegment, DanglingPlacement}
 
 -- ---- 3, 4, 5 (actual, max): the size, n segment rows, p placement rows
 
 unfoldable pub size_rule : DagLimits → ℕ → ℕ → ℕ → Judged
 size_rule limits size n p =
-    when (ltb limits.size size) (refuse2 3 size limits.size) then
-    when (ltb limits.segments n) (refuse2 4 n limits.segments) then
-    when (ltb limits.segments p) (refuse2 5 p limits.segments) then
+    when (ltb limits.size size) (Refused (SerializedSize size limits.size)) then
+    when (ltb limits.segments n) (Refused (SegmentCount n limits.segments)) then
+    when (ltb limits.segments p) (Refused (PlacementCount p limits.segments)) then
     Accepted
 
 -- ---- "Placements in input order: 6, 7"
@@ -32,8 +35,8 @@ size_rule limits size n p =
 unfoldable pub places_from : List ℕ → List Placement → Judged
 places_from seen [] = Accepted
 places_from seen (p ∷ ps) =
-    when (has p.id seen) (refuse1 6 p.id) then
-    when (eqb p.site.url 0) (refuse1 7 p.id) then
+    when (has p.id seen) (Refused (DuplicatePlacement p.id)) then
+    when (eqb p.site.url 0) (Refused (EmptyPlacementUrl p.id)) then
     places_from (seen ++ (p.id ∷ [])) ps
 
 unfoldable pub placements_rule : List Placement → Judged
@@ -46,17 +49,21 @@ abbrev pub empty_text : Option ℕ → Bool
 empty_text none = false
 empty_text (some text) = eqb text 0
 
--- 10 to 12, by the answer of `KeyRange::new`: its number, and the id before its values
+-- 10 to 12, by the answer of `KeyRange::new`: the id before its values
 unfoldable pub range_rule : ℕ → Made → Judged
-range_rule id made = by_number (range_number made) (id ∷ range_values made)
+range_rule id (M.Range r) = Accepted
+range_rule id (M.StartOutOfBounds start) = Refused (StartOutOfBounds id start)
+range_rule id (M.EndOutOfBounds end) = Refused (EndOutOfBounds id end)
+range_rule id (M.Reversed start end) = Refused (Reversed id start end)
 
 -- 13, by the answer of `SegmentState::from_word`, likewise
 unfoldable pub state_rule : ℕ → StateRead → Judged
-state_rule id read = by_number (state_number read) (id ∷ state_values read)
+state_rule id (Known state) = Accepted
+state_rule id (Unknown word) = Refused (UnknownState id word)
 
 unfoldable pub descriptor_rule : ℕ → ℕ → ℕ → ℕ → Option ℕ → Judged
 descriptor_rule id start end state legacy =
-    when (empty_text legacy) (refuse1 9 id) then
+    when (empty_text legacy) (Refused (EmptyLegacyTopic id)) then
     range_rule id (range_of start end) then
     state_rule id (state_of state)
 
@@ -64,14 +71,14 @@ descriptor_rule id start end state legacy =
 
 -- "15 and 16 are for Active": no seal epoch, no children
 unfoldable pub active_rule : ℕ → Option ℕ → ℕ → Judged
-active_rule id (some sealed) children = refuse2 15 id sealed
-active_rule id none children = when (not (eqb children 0)) (refuse1 16 id)
+active_rule id (some sealed) children = Refused (ActiveWithSealEpoch id sealed)
+active_rule id none children = when (not (eqb children 0)) (Refused (ActiveWithChildren id))
 
 -- "17 and 18 for Sealed (18 when sealed < created or sealed > layout)"
 unfoldable pub sealed_rule : ℕ → ℕ → ℕ → Option ℕ → Judged
-sealed_rule layout id created none = refuse1 17 id
+sealed_rule layout id created none = Refused (SealedWithoutEpoch id)
 sealed_rule layout id created (some sealed) =
-    when (ltb sealed created || ltb layout sealed) (refuse4 18 id created sealed layout)
+    when (ltb sealed created || ltb layout sealed) (Refused (InvalidSealEpoch id created sealed layout))
 
 unfoldable pub state_lifecycle : ℕ → ℕ → SegmentState → ℕ → Option ℕ → ℕ → Judged
 state_lifecycle layout id Active created sealed children = active_rule id sealed children
@@ -79,7 +86,7 @@ state_lifecycle layout id Sealed created sealed children = sealed_rule layout id
 
 unfoldable pub lifecycle_rule : ℕ → ℕ → SegmentState → ℕ → Option ℕ → ℕ → Judged
 lifecycle_rule layout id state created sealed children =
-    when (ltb layout created) (refuse3 14 id created layout) then
+    when (ltb layout created) (Refused (CreatedAfterLayout id created layout)) then
     state_lifecycle layout id state created sealed children
 
 -- the state that a word which got past 13 names
@@ -89,16 +96,21 @@ state_after (Unknown word) = Sealed
 
 -- ---- one edge list: 19, and 20 for parents or 21 for children
 
--- "item by item, and the first bad item ends it, self edge before duplicate": the items after those of `before`
-unfoldable pub items_from : ℕ → ℕ → List ℕ → List ℕ → Judged
-items_from number id before [] = Accepted
-items_from number id before (x ∷ xs) =
-    when (eqb x id) (refuse1 19 id) then
-    when (has x before) (refuse2 number id x) then
-    items_from number id (before ++ (x ∷ [])) xs
+-- 20, 21
+abbrev pub duplicate : Side → ℕ → ℕ → Refusal
+duplicate Parents id other = DuplicateParent id other
+duplicate Children id other = DuplicateChild id other
 
-unfoldable pub list_rule : ℕ → ℕ → List ℕ → Judged
-list_rule number id list = items_from number id [] list
+-- "item by item, and the first bad item ends it, self edge before duplicate": the items after those of `before`
+unfoldable pub items_from : Side → ℕ → List ℕ → List ℕ → Judged
+items_from side id before [] = Accepted
+items_from side id before (x ∷ xs) =
+    when (eqb x id) (Refused (SelfEdge id)) then
+    when (has x before) (Refused (duplicate side id x)) then
+    items_from side id (before ++ (x ∷ [])) xs
+
+unfoldable pub list_rule : Side → ℕ → List ℕ → Judged
+list_rule side id list = items_from side id [] list
 
 -- ---- "Segment rows in input order, each through 8 to 22 in that order"
 
@@ -111,8 +123,8 @@ head_rule layout h children =
 -- 19 to 21: "Parents are judged first, then children"
 unfoldable pub lists_rule : ℕ → List ℕ → List ℕ → Judged
 lists_rule id parents children =
-    list_rule 20 id parents then
-    list_rule 21 id children
+    list_rule Parents id parents then
+    list_rule Children id children
 
 unfoldable pub row_rule : ℕ → Segment → Judged
 row_rule layout s =
@@ -121,12 +133,12 @@ row_rule layout s =
 
 -- 22 (actual, max): "compares the larger of both running totals"
 unfoldable pub edge_count_rule : ℕ → ℕ → Judged
-edge_count_rule limit total = when (ltb limit total) (refuse2 22 total limit)
+edge_count_rule limit total = when (ltb limit total) (Refused (EdgeCount total limit))
 
 -- one row through 8 to 22: `seen` are the ids before it, `parents` and `children` the running totals with its own edges
 unfoldable pub counted_rule : ℕ → ℕ → List ℕ → ℕ → ℕ → Segment → Judged
 counted_rule layout limit seen parents children s =
-    when (has s.head.id seen) (refuse1 8 s.head.id) then
+    when (has s.head.id seen) (Refused (DuplicateSegment s.head.id)) then
     row_rule layout s then
     edge_count_rule limit (max parents children)
 
@@ -146,7 +158,7 @@ rows_rule layout limit ss = rows_from layout limit [] 0 0 ss
 unfoldable pub dangling_from : List ℕ → List ℕ → Judged
 dangling_from known [] = Accepted
 dangling_from known (x ∷ xs) =
-    when (not (has x known)) (refuse1 23 x) then
+    when (not (has x known)) (Refused (DanglingPlacement x)) then
     dangling_from known xs
 
 abbrev pub placed_ids : List Placement → List ℕ

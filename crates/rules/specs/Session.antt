@@ -2,9 +2,7 @@
 -- names hold nothing. Assumes nothing.
 use Rattle.std.specs.Prelude.{ℕ, Bool, false, not, cond, ◌&&◌, List}
 use Rattle.lists.specs.Lists.{has}
-use Rattle.words.specs.Table.{ids, where_is}
-use Rattle.words.specs.declared.Found.{Found}
-use Rattle.words.specs.declared.Found.TheVariants.{Nothing}
+use Rattle.words.specs.Table.{ids, where_is, Found, Nothing}
 use Rattle.types.specs.declared.records.Name.{Name}
 use Rattle.types.specs.declared.records.Session.{Session}
 use Rattle.rules.specs.Tables.{held_width}

@@ -7,12 +7,14 @@ use Rattle.std.proofs.Math.Option.{Option, none, some}
 use Rattle.lists.specs.Lists as Lists
 use Rattle.lists.specs.Lists.{tick}
 use Rattle.lists.specs.Sort.{Row, le3, sorted}
-use Rattle.answers.specs.declared.Judged.{Judged}
-use Rattle.answers.specs.declared.Judged.TheVariants.{Accepted}
-use Rattle.answers.specs.Answer.{when, ◌then◌, refuse0, refuse1, refuse2, refuse3}
+use Rattle.answers.specs.Answer.{when, ◌then◌, Judged, Accepted, Refused}
 use Rattle.rules.specs.declared.Walked.{Walked}
 use Rattle.rules.specs.declared.Walked.TheVariants.{Tiled, Broken, Short}
 use Rattle.rules.specs.Model.{Segment, lookup, by_id}
+use Rattle.answers.specs.declared.Refusal.{Refusal}
+use Rattle.types.specs.declared.records.Side.{Side}
+use Rattle.types.specs.declared.records.Side.TheVariants.{Parents, Children}
+use Rattle.answers.specs.declared.Refusal.TheVariants.{InvalidSplitCoverage, InvalidMergeCoverage, ConflictingTopology, ActiveCoverageDiscontinuity, ActiveCoverageEnd, NoActiveSegments}
 
 -- ---- the meaning
 
@@ -85,10 +87,15 @@ unfoldable pub ranges_of : List Segment → List ℕ → List Row
 ranges_of ss [] = []
 ranges_of ss (x ∷ xs) = range_found (lookup x ss) ++ ranges_of ss xs
 
+-- 31 of children, 32 of parents
+abbrev pub uncovered : Side → ℕ → Refusal
+uncovered Children id = InvalidSplitCoverage id
+uncovered Parents id = InvalidMergeCoverage id
+
 -- 31 and 32 (id): the ranges of the segments with these ids must tile the range of s
-unfoldable pub tiling_rule : ℕ → List Segment → Segment → List ℕ → Judged
-tiling_rule number ss s list =
-    when (not (tiles s.head.start s.head.end (ranges_of ss list))) (refuse1 number s.head.id) then
+unfoldable pub tiling_rule : Side → List Segment → Segment → List ℕ → Judged
+tiling_rule side ss s list =
+    when (not (tiles s.head.start s.head.end (ranges_of ss list))) (Refused (uncovered side s.head.id)) then
     Accepted
 
 -- ---- "Parents with children, ascending: if all children have one parent, their ranges must tile the parent's (31); else there must be one
@@ -109,9 +116,9 @@ one_merged ss (x ∷ y ∷ xs) = false
 
 unfoldable pub split_rule : List Segment → Segment → Judged
 split_rule ss p =
-    cond (all_single ss p.children) (tiling_rule 31 ss p p.children)
+    cond (all_single ss p.children) (tiling_rule Children ss p p.children)
     (cond (one_merged ss p.children) Accepted
-    (refuse1 30 p.head.id))
+    (Refused (ConflictingTopology p.head.id)))
 
 -- a segment with no children is no parent
 unfoldable pub fork_rule : List Segment → Segment → Judged
@@ -124,7 +131,7 @@ forks_from ss (p ∷ ps) = fork_rule ss p then forks_from ss ps
 -- ---- "Then children of several parents, ascending: parents' ranges tile the child's (32)."
 
 unfoldable pub join_rule : List Segment → Segment → Judged
-join_rule ss c = cond (ltb 1 (length c.parents)) (tiling_rule 32 ss c c.parents) Accepted
+join_rule ss c = cond (ltb 1 (length c.parents)) (tiling_rule Parents ss c c.parents) Accepted
 
 unfoldable pub joins_from : List Segment → List Segment → Judged
 joins_from ss [] = Accepted
@@ -145,10 +152,10 @@ active_of (s ∷ ss) = cond (eqb s.head.state 1) (range_of s ∷ active_of ss) (
 -- how a walk from 0 to 65535 is answered: 34 (expected, actual, id), 35 (actual, 65535)
 unfoldable pub walked_rule : Walked → Judged
 walked_rule Tiled = Accepted
-walked_rule (Broken expected start id) = refuse3 34 expected start id
-walked_rule (Short expected) = refuse2 35 (expected - 1) 65535
+walked_rule (Broken expected start id) = Refused (ActiveCoverageDiscontinuity expected start id)
+walked_rule (Short expected) = Refused (ActiveCoverageEnd (expected - 1) 65535)
 
 unfoldable pub coverage_rule : List Row → Judged
 coverage_rule active =
-    when (Lists.none active) (refuse0 33) then
+    when (Lists.none active) (Refused NoActiveSegments) then
     walked_rule (walked 0 65535 active)

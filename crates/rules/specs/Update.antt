@@ -6,11 +6,9 @@ use Rattle.std.specs.Prelude.{ℕ, ◌/◌, Bool, true, false, not, cond, ◌&&�
 use Rattle.lists.specs.Lists.{front}
 use Rattle.words.specs.Table.{ids}
 use Rattle.answers.specs.declared.Refusal.{Refusal}
-use Rattle.answers.specs.declared.Judged.{Judged}
-use Rattle.answers.specs.declared.Judged.TheVariants as J
 use Rattle.answers.specs.declared.Updated.{Updated}
 use Rattle.answers.specs.declared.Updated.TheVariants as U
-use Rattle.answers.specs.Answer.{when, ◌then◌, refuse0, refuse1, refuse2}
+use Rattle.answers.specs.Answer.{when, ◌then◌, Judged, Accepted, Refused}
 use Rattle.types.specs.declared.limits.DagLimits.{DagLimits}
 use Rattle.types.specs.declared.records.Name.{Name}
 use Rattle.types.specs.declared.records.Session.{Session}
@@ -22,6 +20,7 @@ use Rattle.rules.specs.Room.{no_room_to_update}
 use Rattle.rules.specs.Layout.{layout_rule}
 use Rattle.rules.specs.Judge.{Tables, Areas, segments_in, placements_in, filled, cleared_if}
 use Rattle.rules.specs.Delta.{added_of, removed_of, split_pairs, merge_pairs, pair_words, delta_of}
+use Rattle.answers.specs.declared.Refusal.TheVariants.{Broker, Empty, SessionMismatch, BadTable, NoRoom}
 
 -- "a session that holds none reads its counts and epoch as 0"
 abbrev pub held_count : Session → ℕ
@@ -43,14 +42,14 @@ pub record Changes : Type 0 where
 -- 41 (signed code, message text or 0), 42 (session)
 unfoldable pub body_rule : Update → Judged
 body_rule u =
-    cond u.layout J.Accepted
-    (cond u.error (refuse2 41 u.code (cond u.message.present u.message.text 0))
-    (refuse1 42 u.session))
+    cond u.layout Accepted
+    (cond u.error (Refused (Broker u.code (cond u.message.present u.message.text 0)))
+    (Refused (Empty u.session)))
 
 -- 40 (got, expected), then 41 or 42
 unfoldable pub address_rule : Session → Update → Judged
 address_rule s u =
-    when (not (eqb u.session s.id)) (refuse2 40 u.session s.id) then
+    when (not (eqb u.session s.id)) (Refused (SessionMismatch u.session s.id)) then
     body_rule u
 
 unfoldable pub is_stale : Session → Update → Bool
@@ -68,8 +67,8 @@ short_to_update h t work a c =
 -- 1, 2, 3 to 35: the layout of `epoch` and `size`, judged where h rows and g edge words are held
 unfoldable pub replace_rule : ℕ → ℕ → ℕ → ℕ → DagLimits → Tables → ℕ → Areas → Changes → Judged
 replace_rule h g epoch size limits t work a c =
-    when (bad_tables h g t a) (refuse0 1) then
-    when (short_to_update h t work a c) (refuse0 2) then
+    when (bad_tables h g t a) (Refused BadTable) then
+    when (short_to_update h t work a c) (Refused NoRoom) then
     layout_rule epoch size limits (segments_in t) (placements_in t)
 
 -- how an update went
@@ -79,9 +78,9 @@ pub data Went : Type 0 where
   judged : Judged → Went
 
 abbrev pub went_after : Judged → Bool → Judged → Went
-went_after (J.Refused r) old j = refused_before r
-went_after J.Accepted true j = stale
-went_after J.Accepted false j = judged j
+went_after (Refused r) old j = refused_before r
+went_after Accepted true j = stale
+went_after Accepted false j = judged j
 
 unfoldable pub went : Session → Update → DagLimits → Tables → ℕ → Areas → Changes → Went
 went s u limits t work a c = went_after (address_rule s u) (is_stale s u) (replace_rule (held_count s) (held_edge_count s) u.epoch u.size limits t work a c)
@@ -95,8 +94,8 @@ held_before h a = ids a.held held_width h
 abbrev pub updated_of : Went → ℕ → List ℕ → List Segment → Updated
 updated_of (refused_before r) epoch before ss = U.Refused r
 updated_of stale epoch before ss = U.Stale
-updated_of (judged (J.Refused r)) epoch before ss = U.Refused r
-updated_of (judged J.Accepted) epoch before ss = U.Accepted (delta_of epoch before ss)
+updated_of (judged (Refused r)) epoch before ss = U.Refused r
+updated_of (judged Accepted) epoch before ss = U.Accepted (delta_of epoch before ss)
 
 -- "An absent resolved name keeps the old one; absent controller URLs clear theirs"
 abbrev pub kept_name : Name → Name → Name
@@ -122,8 +121,8 @@ session_with s u t =
 abbrev pub if_accepted : {A : Type 0} → Went → A → A → A
 if_accepted (refused_before r) new old = old
 if_accepted stale new old = old
-if_accepted (judged (J.Refused r)) new old = old
-if_accepted (judged J.Accepted) new old = new
+if_accepted (judged (Refused r)) new old = old
+if_accepted (judged Accepted) new old = new
 
 abbrev pub session_after : Went → Session → Update → Tables → Session
 session_after w s u t = if_accepted w (session_with s u t) s

@@ -11,6 +11,23 @@ pub const PLACE: usize = 4;
 
 pub const HEAD: usize = 11;
 
+// Which word of a segment row or held row says what, the id being word 0; a flag's value is the word behind it.
+pub const START: usize = 1;
+
+pub const END: usize = 2;
+
+pub const STATE: usize = 3;
+
+pub const CREATED: usize = 4;
+
+pub const SEALED: usize = 5;
+
+pub const LEGACY: usize = 7;
+
+pub const PARENTS: usize = 9;
+
+pub const CHILDREN: usize = 10;
+
 // How a walk over ranges in order ended.
 #[derive(Clone, Copy)]
 pub enum Walked {

@@ -1,16 +1,14 @@
 -- The held row, field by field, and what the descriptor call answers: the judgement over the row's words is the rule's, by computation.
 -- Assumes nothing.
 use mathlib.Core.Path.{◌≡◌, refl}
+use Rattle.std.specs.Prelude.{Ok, Err}
 use Rattle.answers.specs.declared.Refusal.{Refusal}
-use Rattle.answers.specs.declared.Judged.{Judged}
-use Rattle.answers.specs.declared.Judged.TheVariants as J
 use Rattle.types.specs.declared.records.Optional.{Optional}
 use Rattle.types.specs.declared.records.SegmentInfo.{SegmentInfo}
 use Rattle.types.specs.declared.records.SegmentDescriptor.{SegmentDescriptor}
-use Rattle.types.specs.declared.records.Placed.{Placed}
-use Rattle.types.specs.declared.records.Described.TheVariants.{Refused, Descriptor}
-use Rattle.rules.specs.Descriptor.{bad_info, describe_rule, held_option, held_info, url_of, tls_of, descriptor_of, describe}
+use Rattle.rules.specs.Descriptor.{Placed, bad_info, describe_rule, held_option, held_info, url_of, tls_of, descriptor_of, describe}
 use Rattle.segment.specs.Words.{bad_words, joined_descriptor, words_rule}
+use Rattle.answers.specs.Answer.{Judged, Accepted, Refused}
 
 abbrev info_with : SegmentInfo → Optional → Optional → SegmentInfo
 info_with i sealed legacy =
@@ -43,10 +41,10 @@ module _ (i : SegmentInfo) (p : Placed) where
   row-held h u t eh eu et = λ k. record { info = eh k; url = eu k; tls = et k }
 
   module _ (j : Judged) (said : j ≡ judged_row i p) where
-    pub described-refused : (r : Refusal) → j ≡ J.Refused r → Refused r ≡ describe i p
+    pub described-refused : (r : Refusal) → j ≡ Refused r → Err r ≡ describe i p
     unfolding describe
     described-refused r told = rw (← words-rule i p, ← said, told)
 
-    pub described-held : (d : SegmentDescriptor) → j ≡ J.Accepted → d ≡ descriptor_of i p → Descriptor d ≡ describe i p
+    pub described-held : (d : SegmentDescriptor) → j ≡ Accepted → d ≡ descriptor_of i p → Ok d ≡ describe i p
     unfolding describe
     described-held d told held = rw (← words-rule i p, ← said, told, held)

@@ -2,17 +2,16 @@
 -- Assumes nothing.
 use Prim.Native.Nat.{ℕ}
 use mathlib.Core.Path.{◌≡◌, refl}
+use Rattle.std.specs.Prelude.{Some}
 use mathlib.Core.List.{List, [], ◌∷◌}
-use Rattle.answers.specs.declared.Judged.{Judged}
-use Rattle.answers.specs.Answer.{number_of, values_of, refuse0, refuse1, refuse2, refuse4}
+use Rattle.answers.specs.Answer.{number_of, values_of, Judged, Refused}
 use Rattle.types.specs.declared.state.SegmentState.TheVariants.{Active, Sealed}
 use Rattle.types.specs.declared.records.SegmentInfo.{SegmentInfo}
-use Rattle.types.specs.declared.records.Described.{Described}
-use Rattle.types.specs.declared.records.Placed.{Placed}
-use Rattle.types.specs.declared.records.Placed.TheVariants.{At}
 use Rattle.rules.specs.Tables.{optional}
 use Rattle.rules.specs.Rows as Rows
+use Rattle.types.specs.declared.records.Side.TheVariants.{Parents, Children}
 use Rattle.rules.specs.Descriptor as Rule
+use Rattle.answers.specs.declared.Refusal.TheVariants.{DuplicateParent, SelfEdge, StartOutOfBounds, EmptyLegacyTopic, UnknownState, ActiveWithSealEpoch, SealedWithoutEpoch, InvalidSealEpoch, PlacementMismatch, BadTable}
 
 infix 6 ◌gives◌
 -- an answer by 01's number and values
@@ -22,7 +21,7 @@ Answer = ℕ × List ℕ
 abbrev judged : Judged → Answer
 judged j = (number_of j, values_of j)
 
-abbrev described : Described → Answer
+abbrev described : Rule.Described → Answer
 described d = (Rule.described_number d, Rule.described_values d)
 
 record Case : Type 0 where
@@ -52,32 +51,32 @@ row id flag =
     }
 
 -- a placement with that id
-abbrev served : ℕ → Placed
-served id = At (record { id = record { 0 = id }; url = 1; tls = record { flag = 0; word = 0 } })
+abbrev served : ℕ → Rule.Placed
+served id = Some (record { id = record { 0 = id }; url = 1; tls = record { flag = 0; word = 0 } })
 
 -- absent fields have the word 9, which is unread
 abbrev cases : List Case
 cases =
     -- segment 5 with the parents 7, 8, 7
-    (judged (Rows.list_rule 20 5 (7 ∷ 8 ∷ 7 ∷ [])) gives refuse2 20 5 7)
+    (judged (Rows.list_rule Parents 5 (7 ∷ 8 ∷ 7 ∷ [])) gives Refused (DuplicateParent 5 7))
     -- with the parents 7, 5, 7: the self edge comes first
-    ∷ (judged (Rows.list_rule 20 5 (7 ∷ 5 ∷ 7 ∷ [])) gives refuse1 19 5)
+    ∷ (judged (Rows.list_rule Parents 5 (7 ∷ 5 ∷ 7 ∷ [])) gives Refused (SelfEdge 5))
     -- start 65536, end 65535
-    ∷ (judged (Rows.descriptor_rule 5 65536 65535 1 (optional 0 9)) gives refuse2 10 5 65536)
+    ∷ (judged (Rows.descriptor_rule 5 65536 65535 1 (optional 0 9)) gives Refused (StartOutOfBounds 5 65536))
     -- an empty legacy text and a bad range
-    ∷ (judged (Rows.descriptor_rule 5 65536 65535 1 (optional 1 0)) gives refuse1 9 5)
+    ∷ (judged (Rows.descriptor_rule 5 65536 65535 1 (optional 1 0)) gives Refused (EmptyLegacyTopic 5))
     -- an unknown state
-    ∷ (judged (Rows.descriptor_rule 5 0 65535 3 (optional 0 9)) gives refuse2 13 5 3)
+    ∷ (judged (Rows.descriptor_rule 5 0 65535 3 (optional 0 9)) gives Refused (UnknownState 5 3))
     -- Active with a seal epoch
-    ∷ (judged (Rows.lifecycle_rule 9 5 Active 1 (optional 1 3) 0) gives refuse2 15 5 3)
+    ∷ (judged (Rows.lifecycle_rule 9 5 Active 1 (optional 1 3) 0) gives Refused (ActiveWithSealEpoch 5 3))
     -- Sealed without one
-    ∷ (judged (Rows.lifecycle_rule 9 5 Sealed 1 (optional 0 9) 0) gives refuse1 17 5)
+    ∷ (judged (Rows.lifecycle_rule 9 5 Sealed 1 (optional 0 9) 0) gives Refused (SealedWithoutEpoch 5))
     -- sealed after the layout
-    ∷ (judged (Rows.lifecycle_rule 9 5 Sealed 1 (optional 1 10) 0) gives refuse4 18 5 1 10 9)
+    ∷ (judged (Rows.lifecycle_rule 9 5 Sealed 1 (optional 1 10) 0) gives Refused (InvalidSealEpoch 5 1 10 9))
     -- the placement of another id
-    ∷ (described (Rule.describe (row 5 0) (served 6)) gives refuse2 36 5 6)
+    ∷ (described (Rule.describe (row 5 0) (served 6)) gives Refused (PlacementMismatch 5 6))
     -- flag 2, and 1 comes before 36
-    ∷ (described (Rule.describe (row 5 2) (served 6)) gives refuse0 1)
+    ∷ (described (Rule.describe (row 5 2) (served 6)) gives Refused BadTable)
     ∷ []
 
 pub right : Right cases

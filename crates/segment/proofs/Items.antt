@@ -13,10 +13,11 @@ use lib.ListN.{length, get_or, take, drop, drop_of_length-le}
 use lib.Seq.{slice, slice-cons, slice_empty, drop-cons, take-suc}
 use lib.Dec.{eqb}
 use Rattle.lists.specs.Lists.{has}
-use Rattle.answers.specs.declared.Judged.{Judged}
-use Rattle.answers.specs.declared.Judged.TheVariants.{Accepted}
-use Rattle.answers.specs.Answer.{when, refuse1, refuse2, ◌then◌}
-use Rattle.rules.specs.Rows.{items_from, list_rule}
+use Rattle.answers.specs.Answer.{when, ◌then◌, Judged, Accepted, Refused}
+use Rattle.types.specs.declared.records.Side.{Side}
+use Rattle.rules.specs.Rows.{duplicate, items_from, list_rule}
+use Rattle.answers.specs.declared.Refusal.{Refusal}
+use Rattle.answers.specs.declared.Refusal.TheVariants.{SelfEdge}
 
 -- none of the first i items is above top
 abbrev pub Under : List ℕ → ℕ → ℕ → Type 0
@@ -51,27 +52,27 @@ module _ (x : ℕ) (l : List ℕ) (j i : ℕ) (rest : has x (take i l) ≡ has x
   pub scan-none : i ≤ j → j ≤ i → has x (take i l) ≡ false
   scan-none a b = let e : j ≡ i = omega arith in rw (rest, e, slice_empty i l)
 
-pub items-next : (number id : ℕ) (l : List ℕ) (i : ℕ) → i < length l
-    → items_from number id (take i l) (drop i l)
-    ≡ ◌then◌ (when (eqb (get_or l i 0) id) (refuse1 19 id))
-    (◌then◌ (when (has (get_or l i 0) (take i l)) (refuse2 number id (get_or l i 0)))
-    (items_from number id (take (i + 1) l) (drop (i + 1) l)))
+pub items-next : (side : Side) (id : ℕ) (l : List ℕ) (i : ℕ) → i < length l
+    → items_from side id (take i l) (drop i l)
+    ≡ ◌then◌ (when (eqb (get_or l i 0) id) (Refused (SelfEdge id)))
+    (◌then◌ (when (has (get_or l i 0) (take i l)) (Refused (duplicate side id (get_or l i 0))))
+    (items_from side id (take (i + 1) l) (drop (i + 1) l)))
 unfolding items_from
-items-next number id l i h = rw (add-one, drop-cons l i 0, take-suc l i 0)
+items-next side id l i h = rw (add-one, drop-cons l i 0, take-suc l i 0)
 
 -- The ways out of the outer loop, and its next turn. `rest` is the loop's invariant.
-module _ (number id : ℕ) (l : List ℕ) (i : ℕ) (rest : list_rule number id l ≡ items_from number id (take i l) (drop i l)) where
-  pub items-end : length l ≤ i → Accepted ≡ list_rule number id l
+module _ (side : Side) (id : ℕ) (l : List ℕ) (i : ℕ) (rest : list_rule side id l ≡ items_from side id (take i l) (drop i l)) where
+  pub items-end : length l ≤ i → Accepted ≡ list_rule side id l
   unfolding list_rule items_from
   items-end h = rw (rest, drop_of_length-le l h)
 
   module _ (below : i < length l) where
-    pub items-self : (r : Judged) → r ≡ refuse1 19 id → get_or l i 0 ≡ id → r ≡ list_rule number id l
-    items-self r e same = rw (e, rest, items-next number id l i below, eq-eqb _ _ same)
+    pub items-self : (r : Judged) → r ≡ Refused (SelfEdge id) → get_or l i 0 ≡ id → r ≡ list_rule side id l
+    items-self r e same = rw (e, rest, items-next side id l i below, eq-eqb _ _ same)
 
-    pub items-double : (r : Judged) → r ≡ refuse2 number id (get_or l i 0) → (get_or l i 0 ≡ id → ⊥) → has (get_or l i 0) (take i l) ≡ true → r ≡ list_rule number id l
-    items-double r e other dup = rw (e, rest, items-next number id l i below, ne_eqb _ _ other, dup)
+    pub items-double : (r : Refusal) → r ≡ duplicate side id (get_or l i 0) → (get_or l i 0 ≡ id → ⊥) → has (get_or l i 0) (take i l) ≡ true → Refused r ≡ list_rule side id l
+    items-double r e other dup = rw (e, rest, items-next side id l i below, ne_eqb _ _ other, dup)
 
     pub items_more : (get_or l i 0 ≡ id → ⊥) → has (get_or l i 0) (take i l) ≡ false
-        → list_rule number id l ≡ items_from number id (take (i + 1) l) (drop (i + 1) l)
-    items_more other new = rw (rest, items-next number id l i below, ne_eqb _ _ other, new)
+        → list_rule side id l ≡ items_from side id (take (i + 1) l) (drop (i + 1) l)
+    items_more other new = rw (rest, items-next side id l i below, ne_eqb _ _ other, new)

@@ -4,9 +4,9 @@ use Prim.Native.Nat.{ℕ, ◌≤◌}
 use mathlib.Core.Path.{◌≡◌}
 use mathlib.Core.Option.{Option}
 use borrow.Author.Tests.{le-ltb}
-use Rattle.answers.specs.declared.Judged.{Judged}
 use Rattle.types.specs.declared.state.SegmentState.{SegmentState}
 use Rattle.rules.specs.Rows.{lifecycle_rule, state_lifecycle}
+use Rattle.answers.specs.Answer.{Judged}
 
 -- a match on a parameter
 pub told : {A B : Type 0} (f : A → B) (asked arm : A) (r : B) → asked ≡ arm → r ≡ f arm → r ≡ f asked

@@ -1,6 +1,6 @@
 // The descriptor of a segment: what its row says of itself, and where it is served.
 ghost use Rattle.std.specs.Prelude.{◌≡◌, not, ◌||◌, eqb};
-ghost use Rattle.answers.specs.Answer.{when, refuse2};
+ghost use Rattle.answers.specs.Answer.{when, Refused};
 ghost use Rattle.types.specs.Range.{range_of};
 ghost use Rattle.types.specs.State.{state_of};
 ghost use Rattle.rules.specs.Tables.{optional};
@@ -8,9 +8,9 @@ ghost use Rattle.rules.specs.Rows.{empty_text, range_rule, state_rule, descripto
 ghost use Rattle.rules.specs.Descriptor as Rule;
 ghost use Rattle.segment.specs.Words.{bad_words, joined_descriptor, words_rule};
 
-use answers::Judged;
+use answers::Refusal;
 use types::range::{KeyRange, Made};
-use types::records::{Described, Optional, Placed, SegmentDescriptor, SegmentId, SegmentInfo};
+use types::records::{Broker, Optional, SegmentDescriptor, SegmentId, SegmentInfo};
 use types::state::{SegmentState, StateRead};
 
 // Hash and state words are 32-bit numbers on the wire.
@@ -26,38 +26,46 @@ fn is_empty_text(text: Optional) -> bool
 }
 
 // 10 to 12.
-fn judge_range(id: SegmentId, start: u64, end: u64) -> Judged
+fn judge_range(id: SegmentId, start: u64, end: u64) -> Result<(), Refusal>
     ensures { result ≡ range_rule id.0 (range_of start end) }
 {
     match KeyRange::new(start, end) {
-        Made::StartOutOfBounds(s) => answers::refuse(10, id.0, s, 0, 0),
-        Made::EndOutOfBounds(e) => answers::refuse(11, id.0, e, 0, 0),
-        Made::Reversed(s, e) => answers::refuse(12, id.0, s, e, 0),
-        Made::Range(_) => Judged::Accepted,
+        Made::StartOutOfBounds(s) => Err(Refusal::StartOutOfBounds { id: id.0, value: s }),
+        Made::EndOutOfBounds(e) => Err(Refusal::EndOutOfBounds { id: id.0, value: e }),
+        Made::Reversed(s, e) => Err(Refusal::Reversed {
+            id: id.0,
+            start: s,
+            end: e,
+        }),
+        Made::Range(_) => Ok(()),
     }
 }
 
 // 13.
-fn judge_state(id: SegmentId, state: u64) -> Judged
+fn judge_state(id: SegmentId, state: u64) -> Result<(), Refusal>
     ensures { result ≡ state_rule id.0 (state_of state) }
 {
     match SegmentState::from_word(state) {
-        StateRead::Known(_) => Judged::Accepted,
-        StateRead::Unknown(word) => answers::refuse(13, id.0, word, 0, 0),
+        StateRead::Known(_) => Ok(()),
+        StateRead::Unknown(word) => Err(Refusal::UnknownState { id: id.0, word }),
     }
 }
 
 // 9 to 13.
-pub fn judge_descriptor(id: SegmentId, start: u64, end: u64, state: u64, legacy: Optional) -> Judged
+#[tactic(auto, unfolding(rules::specs::Rows::descriptor_rule))]
+pub fn judge_descriptor(
+    id: SegmentId,
+    start: u64,
+    end: u64,
+    state: u64,
+    legacy: Optional,
+) -> Result<(), Refusal>
     ensures { result ≡ descriptor_rule id.0 start end state (optional legacy.flag legacy.word) }
 {
     if is_empty_text(legacy) {
-        return answers::refuse(9, id.0, 0, 0, 0);
+        return Err(Refusal::EmptyLegacyTopic { id: id.0 });
     }
-    let range = judge_range(id, start, end);
-    let Judged::Accepted = range else {
-        return range;
-    };
+    judge_range(id, start, end)?;
     judge_state(id, state)
 }
 
@@ -81,17 +89,24 @@ fn is_bad_words(start: u64, end: u64, state: u64, sealed: u64, legacy: u64) -> b
 }
 
 // 1, of the placement's.
-fn is_bad_placed(placed: Placed) -> bool
+fn is_bad_placed(placed: Option<Broker>) -> bool
     ensures { result ≡ Rule.bad_placed placed }
 {
     match placed {
-        Placed::Nowhere => false,
-        Placed::At(broker) => broker.tls.flag > 1,
+        None => false,
+        Some(broker) => broker.tls.flag > 1,
     }
 }
 
 // 1.
-fn is_bad_call(start: u64, end: u64, state: u64, sealed: u64, legacy: u64, placed: Placed) -> bool
+fn is_bad_call(
+    start: u64,
+    end: u64,
+    state: u64,
+    sealed: u64,
+    legacy: u64,
+    placed: Option<Broker>,
+) -> bool
     ensures { result ≡ bad_words start end state sealed legacy || Rule.bad_placed placed }
 {
     if is_bad_words(start, end, state, sealed, legacy) {
@@ -101,40 +116,41 @@ fn is_bad_call(start: u64, end: u64, state: u64, sealed: u64, legacy: u64, place
 }
 
 // 36, of a placement with the id `other`.
-fn judge_same(id: SegmentId, other: u64) -> Judged
-    ensures { result ≡ when (not (eqb other id.0)) (refuse2 36 id.0 other) }
+fn judge_same(id: SegmentId, other: u64) -> Result<(), Refusal>
+    ensures { result ≡ when (not (eqb other id.0)) (Refused (Refusal.PlacementMismatch id.0 other)) }
 {
     if other != id.0 {
-        return answers::refuse(36, id.0, other, 0, 0);
+        return Err(Refusal::PlacementMismatch {
+            id: id.0,
+            placement: other,
+        });
     }
-    Judged::Accepted
+    Ok(())
 }
 
 // 36.
-fn judge_joined(id: SegmentId, placed: Placed) -> Judged
+fn judge_joined(id: SegmentId, placed: Option<Broker>) -> Result<(), Refusal>
     ensures { result ≡ Rule.joined_rule id.0 placed }
 {
     match placed {
-        Placed::Nowhere => Judged::Accepted,
-        Placed::At(broker) => judge_same(id, broker.id.0),
+        None => Ok(()),
+        Some(broker) => judge_same(id, broker.id.0),
     }
 }
 
 // 36, then 9 to 13.
+#[tactic(auto, unfolding(crate::specs::Words::joined_descriptor))]
 fn judge_joined_descriptor(
     id: SegmentId,
     start: u64,
     end: u64,
     state: u64,
     legacy: Optional,
-    placed: Placed,
-) -> Judged
+    placed: Option<Broker>,
+) -> Result<(), Refusal>
     ensures { result ≡ joined_descriptor id.0 start end state legacy placed }
 {
-    let joined = judge_joined(id, placed);
-    let Judged::Accepted = joined else {
-        return joined;
-    };
+    judge_joined(id, placed)?;
     judge_descriptor(id, start, end, state, legacy)
 }
 
@@ -146,12 +162,12 @@ fn judge_words(
     state: u64,
     sealed: u64,
     legacy: Optional,
-    placed: Placed,
-) -> Judged
+    placed: Option<Broker>,
+) -> Result<(), Refusal>
     ensures { result ≡ words_rule id.0 start end state sealed legacy placed }
 {
     if is_bad_call(start, end, state, sealed, legacy.flag, placed) {
-        return answers::refuse(1, 0, 0, 0, 0);
+        return Err(Refusal::BadTable);
     }
     judge_joined_descriptor(id, start, end, state, legacy, placed)
 }
@@ -169,24 +185,24 @@ fn hold_option(o: Optional) -> Optional
     o
 }
 
-fn hold_url(placed: Placed) -> Optional
+fn hold_url(placed: Option<Broker>) -> Optional
     ensures { result ≡ Rule.url_of placed }
 {
     match placed {
-        Placed::Nowhere => Optional { flag: 0, word: 0 },
-        Placed::At(broker) => Optional {
+        None => Optional { flag: 0, word: 0 },
+        Some(broker) => Optional {
             flag: 1,
             word: broker.url,
         },
     }
 }
 
-fn hold_tls(placed: Placed) -> Optional
+fn hold_tls(placed: Option<Broker>) -> Optional
     ensures { result ≡ Rule.tls_of placed }
 {
     match placed {
-        Placed::Nowhere => Optional { flag: 0, word: 0 },
-        Placed::At(broker) => hold_option(broker.tls),
+        None => Optional { flag: 0, word: 0 },
+        Some(broker) => hold_option(broker.tls),
     }
 }
 
@@ -209,7 +225,7 @@ fn hold_info(info: SegmentInfo) -> SegmentInfo
     }
 }
 
-fn hold(info: SegmentInfo, placed: Placed) -> SegmentDescriptor
+fn hold(info: SegmentInfo, placed: Option<Broker>) -> SegmentDescriptor
     ensures { result ≡ Rule.descriptor_of info placed }
 {
     SegmentDescriptor {
@@ -220,10 +236,10 @@ fn hold(info: SegmentInfo, placed: Placed) -> SegmentDescriptor
 }
 
 // The descriptor call: the held row of a segment row and of the placement that is joined to it.
-pub fn describe(info: SegmentInfo, placed: Placed) -> Described
+pub fn describe(info: SegmentInfo, placed: Option<Broker>) -> Result<SegmentDescriptor, Refusal>
     ensures { result ≡ Rule.describe info placed }
 {
-    let judged = judge_words(
+    judge_words(
         info.id,
         info.start,
         info.end,
@@ -231,9 +247,6 @@ pub fn describe(info: SegmentInfo, placed: Placed) -> Described
         info.sealed.flag,
         info.legacy,
         placed,
-    );
-    match judged {
-        Judged::Refused(r) => Described::Refused(r),
-        Judged::Accepted => Described::Descriptor(hold(info, placed)),
-    }
+    )?;
+    Ok(hold(info, placed))
 }

@@ -3,37 +3,50 @@ ghost use Rattle.std.specs.Prelude.{◌≡◌};
 ghost use Rattle.rules.specs.Tables.{optional};
 ghost use Rattle.rules.specs.Rows.{active_rule, sealed_rule, lifecycle_rule};
 
-use answers::Judged;
+use answers::Refusal;
 use types::records::{Optional, SegmentId};
 use types::state::SegmentState;
 
 // 15 and 16.
-fn judge_active(id: SegmentId, sealed: Optional, children: u64) -> Judged
+fn judge_active(id: SegmentId, sealed: Optional, children: u64) -> Result<(), Refusal>
     ensures { result ≡ active_rule id.0 (optional sealed.flag sealed.word) children }
 {
     if sealed.flag != 0 {
-        return answers::refuse(15, id.0, sealed.word, 0, 0);
+        return Err(Refusal::ActiveWithSealEpoch {
+            id: id.0,
+            sealed: sealed.word,
+        });
     }
     if children != 0 {
-        return answers::refuse(16, id.0, 0, 0, 0);
+        return Err(Refusal::ActiveWithChildren { id: id.0 });
     }
-    Judged::Accepted
+    Ok(())
 }
 
 // 17 and 18.
-fn judge_sealed(layout: u64, id: SegmentId, created: u64, sealed: Optional) -> Judged
+fn judge_sealed(layout: u64, id: SegmentId, created: u64, sealed: Optional) -> Result<(), Refusal>
     ensures { result ≡ sealed_rule layout id.0 created (optional sealed.flag sealed.word) }
 {
     if sealed.flag == 0 {
-        return answers::refuse(17, id.0, 0, 0, 0);
+        return Err(Refusal::SealedWithoutEpoch { id: id.0 });
     }
     if sealed.word < created {
-        return answers::refuse(18, id.0, created, sealed.word, layout);
+        return Err(Refusal::InvalidSealEpoch {
+            id: id.0,
+            created,
+            sealed: sealed.word,
+            layout,
+        });
     }
     if layout < sealed.word {
-        return answers::refuse(18, id.0, created, sealed.word, layout);
+        return Err(Refusal::InvalidSealEpoch {
+            id: id.0,
+            created,
+            sealed: sealed.word,
+            layout,
+        });
     }
-    Judged::Accepted
+    Ok(())
 }
 
 // 14 to 18.
@@ -44,11 +57,15 @@ pub fn judge_lifecycle(
     created: u64,
     sealed: Optional,
     children: u64,
-) -> Judged
+) -> Result<(), Refusal>
     ensures { result ≡ lifecycle_rule layout id.0 state created (optional sealed.flag sealed.word) children }
 {
     if layout < created {
-        return answers::refuse(14, id.0, created, layout, 0);
+        return Err(Refusal::CreatedAfterLayout {
+            id: id.0,
+            created,
+            layout,
+        });
     }
     match state {
         SegmentState::Active => judge_active(id, sealed, children),

@@ -1,9 +1,7 @@
 -- What a search of the held rows hands out: a row number as a type of its own. Assumes nothing.
-use Rattle.words.specs.declared.Found.{Found}
-use Rattle.words.specs.declared.Found.TheVariants as F
-use Rattle.session.specs.declared.RowFound.{RowFound}
-use Rattle.session.specs.declared.RowFound.TheVariants.{At, Nothing}
+use Rattle.std.specs.Prelude.{Option, option_map}
+use Rattle.types.specs.declared.records.RowIndex.{RowIndex}
+use Rattle.words.specs.Table.{Found}
 
-abbrev pub row_found : Found → RowFound
-row_found (F.At row) = At (record { 0 = row })
-row_found F.Nothing = Nothing
+abbrev pub row_found : Found → Option RowIndex
+row_found f = option_map (λ row. record { 0 = row }) f

@@ -11,14 +11,6 @@ ghost use Rattle.rules.specs.Session.{new_session, row_of_segment, contains_segm
 ghost use Rattle.session.specs.Search.{row_found};
 
 use types::records::{Name, RowIndex, SegmentId, Session};
-use words::Found;
-
-// Where a segment is held: a row, never to be taken for an id.
-#[derive(Clone, Copy)]
-pub enum RowFound {
-    At(RowIndex),
-    Nothing,
-}
 
 // Before the first update.
 pub fn new_session(id: u64) -> Session
@@ -94,31 +86,26 @@ pub fn held_edges(s: Session) -> usize
 }
 
 // Rows that refusal 1 names hold nothing: only good ones ascend, as the search needs.
-fn find_held(rows: &[u64], n: usize, id: u64) -> Found
-    ensures { result ≡ cond (bad_held_rows rows.now n) Found.Nothing (where_is (ids rows.now held_width n) id) }
+fn find_held(rows: &[u64], n: usize, id: u64) -> Option<usize>
+    ensures { result ≡ cond (bad_held_rows rows.now n) None (where_is (ids rows.now held_width n) id) }
 {
     if shape::tables::is_bad_held_rows(rows, n) {
-        return Found::Nothing;
+        return None;
     }
     words::find_row(rows, rules::HELD, n, id)
 }
 
-// The held row of a segment.
-pub fn segment_row(s: Session, rows: &[u64], id: SegmentId) -> RowFound
+// The held row of a segment: a row number, never to be taken for an id.
+#[tactic(auto, unfolding(rules::specs::Session::row_of_segment))]
+pub fn segment_row(s: Session, rows: &[u64], id: SegmentId) -> Option<RowIndex>
     ensures { result ≡ row_found (row_of_segment s rows.now id.0) }
 {
-    match find_held(rows, held_rows(s), id.0) {
-        Found::At(row) => RowFound::At(RowIndex(row)),
-        Found::Nothing => RowFound::Nothing,
-    }
+    find_held(rows, held_rows(s), id.0).map(RowIndex)
 }
 
 // Is the segment held?
 pub fn contains(s: Session, rows: &[u64], id: SegmentId) -> bool
     ensures { result ≡ contains_segment s rows.now id.0 }
 {
-    match find_held(rows, held_rows(s), id.0) {
-        Found::At(_) => true,
-        Found::Nothing => false,
-    }
+    find_held(rows, held_rows(s), id.0).is_some()
 }

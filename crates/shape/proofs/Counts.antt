@@ -1,7 +1,6 @@
 -- What the walk over the edge counts uses of `edges_from`: one row more. `left` is what is left of `len` after the rows before i; the walk's
 -- invariant, `rest`, says that the counts of all rows are those of the rows to come and what has been taken. Assumes nothing.
 use Prim.Native.Nat.{ℕ, ◌+◌, ◌-◌, ◌*◌, ◌≤◌, ◌<◌}
-use native.Mathlib.Nat.{sub-zero}
 use mathlib.Core.Path.{◌≡◌, refl, sym, ap, ◌∙◌}
 use mathlib.Core.Bool.{Bool, true, false, not}
 use mathlib.Core.List.{List}
@@ -22,9 +21,6 @@ eqb_same a b c d f g = by (eqb a b) refl
     by true e = e ∙ sym (eq-eqb c d (f (eqb-true a b e)))
     by false e = e ∙ sym (ne_eqb c d (λ k. eqb-false a b e (g k)))
 
-pub counts_start : (width : ℕ) (rows : List ℕ) (n len : ℕ) → edges_from width rows n 0 + len ≡ edges_from width rows (n - 0) 0 + len
-counts_start width rows n len = simp sub-zero
-
 module _ (width : ℕ) (rows : List ℕ) (n i len left : ℕ) (rest : edges_from width rows n 0 + left ≡ edges_from width rows (n - i) i + len) where
   pub counts_end : n ≤ i → not (eqb left 0) ≡ wrong_counts width rows n len
   unfolding wrong_counts
@@ -38,11 +34,11 @@ module _ (width : ℕ) (rows : List ℕ) (n i len left : ℕ) (rest : edges_from
 
     -- x is what a test said of the row's counts
     module _ (x : Bool) (said : x ≡ ltb left (parents_at rows (i * width) + children_at rows (i * width))) where
-      pub counts-over : x ≡ true → true ≡ wrong_counts width rows n len
+      pub counts_over : x ≡ true → true ≡ wrong_counts width rows n len
       unfolding wrong_counts
-      counts-over told =
+      counts_over told =
           let h : left < parents_at rows (i * width) + children_at rows (i * width) = ltb-true _ _ (sym said ∙ told) in
           rw (ne_eqb (edges_from width rows n 0) len (λ e. omega (arith, counts-open, e)))
 
-      pub counts-next : x ≡ false → edges_from width rows n 0 + (left - parents_at rows (i * width) - children_at rows (i * width)) ≡ edges_from width rows (n - (i + 1)) (i + 1) + len
-      counts-next told = omega (arith, counts-open, under left (parents_at rows (i * width)) (children_at rows (i * width)) x said told)
+      pub counts_next : x ≡ false → edges_from width rows n 0 + (left - parents_at rows (i * width) - children_at rows (i * width)) ≡ edges_from width rows (n - (i + 1)) (i + 1) + len
+      counts_next told = omega (arith, counts-open, under left (parents_at rows (i * width)) (children_at rows (i * width)) x said told)

@@ -14,6 +14,7 @@ use Rattle.words.specs.Table.{ids, ascending}
 use Rattle.rules.specs.Tables.{held_width}
 use Rattle.rules.specs.Shape.{bad_held_row, any_bad, wrong_counts, bad_held_rows, bad_held}
 use Rattle.shape.specs.Next.{bad_next}
+use Rattle.shape.proofs.Whole.{compared, rows_fit, rows_short}
 
 -- ---- one pass for rows and ids
 
@@ -64,19 +65,20 @@ module _ (rows : List ℕ) where
 pub one_holds : (a b : Bool) → true ≡ a → true ≡ a || b
 one_holds a b e = rw (← e)
 
-pub other-holds : (a b : Bool) → true ≡ b → true ≡ a || b
-other-holds a b e = rw (← e, or-true)
-
-pub other-is : (a b v : Bool) → false ≡ a → v ≡ b → v ≡ a || b
-other-is a b v e r = rw (← e, r)
+pub other_holds : (a b : Bool) → true ≡ b → true ≡ a || b
+other_holds a b e = rw (← e, or-true)
 
 -- ---- what a pass said is what is asked
 
-pub rows-said : (rows : List ℕ) (n : ℕ) (x : Bool) → x ≡ any_bad bad_next held_width rows n 0 → x ≡ any_bad bad_held_row held_width rows n 0 || not (ascending (ids rows held_width n))
-rows-said rows n x said = said ∙ next-is rows n
+pub rows_said : (rows : List ℕ) (n : ℕ) (x : Bool) → x ≡ any_bad bad_next held_width rows n 0 → x ≡ any_bad bad_held_row held_width rows n 0 || not (ascending (ids rows held_width n))
+rows_said rows n x said = said ∙ next-is rows n
 
-pub held-said : (rows edges : List ℕ) (n e : ℕ) (x : Bool) → n * held_width ≤ length rows → e ≤ length edges
+pub held_said : (rows edges : List ℕ) (n e : ℕ) (x : Bool) → n * held_width ≤ length rows → e ≤ length edges
     → x ≡ any_bad bad_next held_width rows n 0 || wrong_counts held_width rows n e
     → x ≡ bad_held rows edges n e
 unfolding bad_held bad_held_rows
-held-said rows edges n e x h k said = rw (le-ltb (length rows) (n * held_width) h, le-ltb (length edges) e k, ← next-is rows n) said
+held_said rows edges n e x h k said = rw (le-ltb (length rows) (n * held_width) h, le-ltb (length edges) e k, ← next-is rows n) said
+
+pub ruleset held_rows = (compared, rows_said)
+
+pub ruleset held = (held_said, rows_fit, rows_short, compared, one_holds, other_holds)

@@ -2,12 +2,12 @@
 -- of its rows, and what is needed is taken from what is left. Assumes nothing.
 use Prim.Native.Nat.{ℕ, ◌+◌, ◌-◌, ◌*◌, ◌/◌, ◌≤◌, ◌<◌}
 use mathlib.Core.Path.{◌≡◌, sym, refl, ◌∙◌}
-use mathlib.Core.Bool.{Bool, true, false, not, ◌||◌}
+use mathlib.Core.Bool.{Bool, true, false, ◌||◌}
 use mathlib.Core.Logic.{⊎_elim}
 use native.Mathlib.Omega.{arith}
 use native.Mathlib.Nat.{div-lt_iff_lt-mul, le-div_iff_mul-le, add-zero}
-use borrow.Author.Tests.{eq-eqb, ne_eqb, lt-ltb, le-ltb, ltb-true, ltb-false, leb-true, leb-false}
-use lib.Dec.{eqb, ltb, leb}
+use borrow.Author.Tests.{lt-ltb, le-ltb, ltb-true, ltb-false, leb-true, leb-false}
+use lib.Dec.{ltb, leb}
 use Rattle.lists.proofs.Cases.{lt-or-le}
 
 -- the first of several tests, which holds or not
@@ -16,13 +16,6 @@ lt-hit a b rest h = rw (lt-ltb a b h)
 
 pub lt-miss : (a b : ℕ) (v rest : Bool) → b ≤ a → v ≡ rest → v ≡ ltb a b || rest
 lt-miss a b v rest h e = rw (le-ltb a b h, e)
-
--- the same of a number that is to be 0
-pub zero-hit : (a : ℕ) (rest : Bool) → (a ≡ 0 → ⊥) → true ≡ not (eqb a 0) || rest
-zero-hit a rest h = rw (ne_eqb a 0 h)
-
-pub zero-miss : (a : ℕ) (v rest : Bool) → a ≡ 0 → v ≡ rest → v ≡ not (eqb a 0) || rest
-zero-miss a v rest h e = rw (eq-eqb a 0 h, e)
 
 -- two comparisons that hold together
 lt_same : (a b c d : ℕ) → (a < b → c < d) → (c < d → a < b) → ltb a b ≡ ltb c d
@@ -62,41 +55,35 @@ pairs-same area k = lt_same (area / 2) k area (2 * k) (λ h. omega arith) (λ h.
 pub over_first : (left a b : ℕ) → left < a → true ≡ ltb left (a + b)
 over_first left a b h = sym (lt-ltb left (a + b) (omega arith))
 
-pub over-second : (left a b : ℕ) → a ≤ left → ltb (left - a) b ≡ ltb left (a + b)
-over-second left a b h = lt_same (left - a) b left (a + b) (λ q. omega arith) (λ q. omega arith)
+pub over_second : (left a b : ℕ) → a ≤ left → ltb (left - a) b ≡ ltb left (a + b)
+over_second left a b h = lt_same (left - a) b left (a + b) (λ q. omega arith) (λ q. omega arith)
 
 -- x is what such a test said
 module _ (left a b : ℕ) (x : Bool) (said : x ≡ ltb left (a + b)) (told : x ≡ false) where
   pub under : a + b ≤ left
   under = ltb-false left (a + b) (sym said ∙ told)
 
-  pub under_first : a ≤ left
-  under_first = omega (arith, under)
-
-  pub under-second : b ≤ left - a
-  under-second = omega (arith, under)
-
 -- ---- the work area: 32 words for each of a, b, c and d things, which are taken one after the other from what is left
 
 module _ (work a b c d : ℕ) where
-  pub work-first : work / 32 < a → true ≡ ltb work (32 * (a + b + c + d))
-  work-first h = sym (lt-ltb work (32 * (a + b + c + d)) (omega arith))
+  pub work_first : work / 32 < a → true ≡ ltb work (32 * (a + b + c + d))
+  work_first h = sym (lt-ltb work (32 * (a + b + c + d)) (omega arith))
 
-  pub work-second : work / 32 - a < b → true ≡ ltb work (32 * (a + b + c + d))
-  work-second h = sym (lt-ltb work (32 * (a + b + c + d)) (omega arith))
+  pub work_second : work / 32 - a < b → true ≡ ltb work (32 * (a + b + c + d))
+  work_second h = sym (lt-ltb work (32 * (a + b + c + d)) (omega arith))
 
-  pub work-third : work / 32 - a - b < c → true ≡ ltb work (32 * (a + b + c + d))
-  work-third h = sym (lt-ltb work (32 * (a + b + c + d)) (omega arith))
+  pub work_third : work / 32 - a - b < c → true ≡ ltb work (32 * (a + b + c + d))
+  work_third h = sym (lt-ltb work (32 * (a + b + c + d)) (omega arith))
 
-  pub work-fourth : a ≤ work / 32 → b ≤ work / 32 - a → c ≤ work / 32 - a - b → ltb (work / 32 - a - b - c) d ≡ ltb work (32 * (a + b + c + d))
-  work-fourth p q r = lt_same (work / 32 - a - b - c) d work (32 * (a + b + c + d)) (λ h. omega arith) (λ h. omega arith)
+  pub work_fourth : a ≤ work / 32 → b ≤ work / 32 - a → c ≤ work / 32 - a - b → ltb (work / 32 - a - b - c) d ≡ ltb work (32 * (a + b + c + d))
+  work_fourth p q r = lt_same (work / 32 - a - b - c) d work (32 * (a + b + c + d)) (λ h. omega arith) (λ h. omega arith)
 
 -- fewer things
-pub work-three : (work a b c : ℕ) (x : Bool) → x ≡ ltb work (32 * (a + b + c + 0)) → x ≡ ltb work (32 * (a + b + c))
-work-three work a b c x e = rw (add-zero (a + b + c)) at e
+pub work_three : (work a b c : ℕ) (x : Bool) → x ≡ ltb work (32 * (a + b + c + 0)) → x ≡ ltb work (32 * (a + b + c))
+work_three work a b c x e = rw (add-zero (a + b + c)) at e
 
-pub work-two : (work a b : ℕ) (x : Bool) → x ≡ ltb work (32 * (a + b + 0 + 0)) → x ≡ ltb work (32 * (a + b))
-work-two work a b x e = rw (add-zero (a + b)) at (work-three work a b 0 x e)
+pub work_two : (work a b : ℕ) (x : Bool) → x ≡ ltb work (32 * (a + b + 0 + 0)) → x ≡ ltb work (32 * (a + b))
+work_two work a b x e = rw (add-zero (a + b)) at (work_three work a b 0 x e)
 
 -- ---- one word more than g
 
@@ -114,3 +101,5 @@ more_same area g = by (leb area g) refl
     by false e = e ∙ sym (le-ltb area (g + 1) (omega (arith, leb-false area g e)))
 
 pub ruleset compared = (lt-hit, lt-miss, rows-hit, rows-miss, pairs-hit, pairs-miss, pairs-same, more-hit, more-miss, more_same)
+
+pub ruleset works = (work_first, work_second, work_third, work_fourth)

@@ -3,7 +3,7 @@
 
 ghost use Rattle.std.specs.Prelude.{◌+◌, ◌≤◌, ◌<◌};
 
-use answers::Refusal;
+use answers::{Refusal, RefusalWords};
 use std::io;
 
 // What the programs fill an area with: a word that no table of theirs has, so that what a call leaves alone can be seen.
@@ -63,6 +63,7 @@ fn value(rt: &impl Print, carried: u64, place: u64, v: u64) -> io::Result<()> {
 
 // The number, and as many values as the fixed table gives it.
 pub fn refusal(rt: &impl Print, r: Refusal) -> io::Result<()> {
+    let r = RefusalWords::from(r);
     let kind = answers::kinds::kind_of(r.number);
     word(rt, r.number)?;
     value(rt, kind.values, 0, r.a)?;

@@ -14,9 +14,7 @@ use mathlib.Core.List.{List, [], ◌∷◌}
 use lib.ListN.{length, get_or, drop}
 use lib.Seq.{get_or-drop, drop-drop}
 use lib.Dec.{eqb}
-use Rattle.words.specs.Table.{ids, where_from, where_is}
-use Rattle.words.specs.declared.Found.{Found}
-use Rattle.words.specs.declared.Found.TheVariants.{At, Nothing}
+use Rattle.words.specs.Table.{ids, where_from, where_is, Found, At, Nothing}
 use Rattle.rules.specs.Model.{Segment, ids_of, lookup}
 use Rattle.rules.specs.Tables.{held_width, parents_at, children_at, start_of, segment_at, segments_from, held_segments}
 use Rattle.rules.proofs.Places.{start-next}

@@ -3,9 +3,7 @@
 use Rattle.std.specs.Prelude.{ℕ, ◌+◌, ◌*◌, ◌≤◌, ◌≡◌, List, length}
 use Rattle.std.proofs.Math.Option.{Option, none, some}
 use Rattle.words.specs.Part.{part}
-use Rattle.words.specs.Table.{ids, Ascends}
-use Rattle.words.specs.declared.Found.{Found}
-use Rattle.words.specs.declared.Found.TheVariants.{At, Nothing}
+use Rattle.words.specs.Table.{ids, Ascends, Found, At, Nothing}
 use Rattle.rules.specs.Model.{Segment}
 use Rattle.rules.specs.Tables.{held_width, edges_from, start_of, segment_at, held_segments}
 

@@ -6,10 +6,7 @@ ghost use Rattle.texts.specs.Written.{Wrote};
 pub fn put_nothing(out: &[u8], at: usize) -> usize
     ensures { result ≡ min at (length out.now) }
 {
-    if at < out.len() {
-        return at;
-    }
-    out.len()
+    at.min(out.len())
 }
 
 pub fn put_byte(out: &mut [u8], at: usize, byte: u8) -> usize
@@ -26,10 +23,8 @@ pub fn put_bytes(out: &mut [u8], at: usize, bytes: &[u8]) -> usize
     ensures { Wrote out.old at bytes.now out.new result }
 {
     let mut p = put_nothing(out, at);
-    let mut i = 0;
-    while i < bytes.len() {
-        p = put_byte(out, p, bytes[i]);
-        i += 1;
+    for &byte in bytes {
+        p = put_byte(out, p, byte);
     }
     p
 }

@@ -7,26 +7,18 @@ ghost use Rattle.texts.specs.Written.{Wrote};
 use crate::area::put_byte;
 use crate::numbers::put_number;
 
-fn least(a: usize, b: usize) -> usize
-    ensures { result ≡ min a b }
-{
-    if a < b { a } else { b }
-}
-
 // The first `count` numbers of the list, or as many as it has.
 pub fn put_list(out: &mut [u8], at: usize, list: &[u64], count: usize) -> usize
     ensures { Wrote out.old at (listed count list.now) out.new result }
 {
-    let n = least(count, list.len());
+    let n = count.min(list.len());
     if n == 0 {
         return put_byte(out, at, b'-');
     }
     let mut p = put_number(out, at, list[0]);
-    let mut i = 1;
-    while i < n {
+    for i in 1..n {
         p = put_byte(out, p, b',');
         p = put_number(out, p, list[i]);
-        i += 1;
     }
     p
 }
@@ -44,16 +36,14 @@ fn put_pair(out: &mut [u8], at: usize, x: u64, mark: u8, y: u64) -> usize
 pub fn put_pairs(out: &mut [u8], at: usize, pairs: &[u64], count: usize, mark: u8) -> usize
     ensures { Wrote out.old at (pairs_listed mark count pairs.now) out.new result }
 {
-    let n = least(count, pairs.len() / 2);
+    let n = count.min(pairs.len() / 2);
     if n == 0 {
         return put_byte(out, at, b'-');
     }
     let mut p = put_pair(out, at, pairs[0], mark, pairs[1]);
-    let mut i = 1;
-    while i < n {
+    for i in 1..n {
         p = put_byte(out, p, b',');
         p = put_pair(out, p, pairs[2 * i], mark, pairs[2 * i + 1]);
-        i += 1;
     }
     p
 }

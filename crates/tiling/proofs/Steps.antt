@@ -17,11 +17,11 @@ use Rattle.lists.specs.Sort.{Row, le3, sorted}
 use Rattle.sorts.specs.Rows.{rows}
 use Rattle.sorts.specs.Heap.{row0}
 use Rattle.sorts.proofs.RowLaws.{rows_at, rows-length}
-use Rattle.answers.specs.declared.Judged.{Judged}
-use Rattle.answers.specs.Answer.{refuse0, refuse2}
+use Rattle.answers.specs.Answer.{Judged, Refused}
 use Rattle.rules.specs.declared.Walked.{Walked}
 use Rattle.rules.specs.declared.Walked.TheVariants.{Tiled, Broken, Short}
 use Rattle.rules.specs.Tiling.{misfit, walk_end, walk_from, walked, tiles, is_tiled, walked_rule, coverage_rule}
+use Rattle.answers.specs.declared.Refusal.TheVariants.{ActiveCoverageEnd, NoActiveSegments}
 
 -- ---- a misfit
 
@@ -96,7 +96,7 @@ next_fits x last s e t said told other fits = let h : e ≤ last = fit-end x las
 pub told-rule : (w told : Walked) (r : Judged) → w ≡ told → r ≡ walked_rule told → r ≡ walked_rule w
 told-rule w told r k v = rw (v, k)
 
-pub told-short : (w : Walked) (x b : ℕ) (r : Judged) → w ≡ Short x → b ≡ x - 1 → r ≡ refuse2 35 b 65535 → r ≡ walked_rule w
+pub told-short : (w : Walked) (x b : ℕ) (r : Judged) → w ≡ Short x → b ≡ x - 1 → r ≡ Refused (ActiveCoverageEnd b 65535) → r ≡ walked_rule w
 unfolding walked_rule
 told-short w x b r k e v = rw (v, k, e)
 
@@ -117,7 +117,7 @@ module _ (l k : List ℕ) (n : ℕ) (len : length l ≡ 3 * n) (s : rows k ≡ s
   unfolding coverage_rule walked
   coverage-walk w r some said v = rw (v, none_rows l n len some, said, s) refl
 
-pub coverage-none : (l : List ℕ) (n : ℕ) (r : Judged) → length l ≡ 3 * n → n ≡ 0 → r ≡ refuse0 33 → r ≡ coverage_rule (rows l)
+pub coverage-none : (l : List ℕ) (n : ℕ) (r : Judged) → length l ≡ 3 * n → n ≡ 0 → r ≡ Refused NoActiveSegments → r ≡ coverage_rule (rows l)
 unfolding coverage_rule
 coverage-none l n r len z v = by (rows l) (rows-length l n len)
   where

@@ -6,7 +6,7 @@ ghost use Rattle.std.specs.Prelude.{◌≡◌, Bool, true, false, ◌+◌, ◌-�
 ghost use Rattle.sorts.specs.Rows.{rows};
 ghost use Rattle.rules.specs.Tiling.{misfit, walk_end, walk_from, tiles, walked_rule, coverage_rule};
 
-use answers::Judged;
+use answers::Refusal;
 use rules::Walked;
 
 fn is_misfit(expected: u64, last: u64, start: u64, end: u64) -> bool
@@ -80,24 +80,31 @@ fn before(hash: u64) -> u64
 }
 
 // 34, 35.
-fn judge_walked(walked: Walked) -> Judged
+fn judge_walked(walked: Walked) -> Result<(), Refusal>
     ensures { result ≡ walked_rule walked }
 {
     match walked {
-        Walked::Tiled => Judged::Accepted,
-        Walked::Broken(expected, start, id) => answers::refuse(34, expected, start, id, 0),
-        Walked::Short(expected) => answers::refuse(35, before(expected), 65535, 0, 0),
+        Walked::Tiled => Ok(()),
+        Walked::Broken(expected, start, id) => Err(Refusal::ActiveCoverageDiscontinuity {
+            expected,
+            actual: start,
+            id,
+        }),
+        Walked::Short(expected) => Err(Refusal::ActiveCoverageEnd {
+            actual: before(expected),
+            expected: 65535,
+        }),
     }
 }
 
 // 33, 34, 35 over the n Active ranges. The rows are left in some order.
-pub fn judge_coverage(a: &mut [u64], n: usize) -> Judged
+pub fn judge_coverage(a: &mut [u64], n: usize) -> Result<(), Refusal>
     requires { length a.old ≡ 3 * n }
     ensures { result ≡ coverage_rule (rows a.old) }
 {
     sorts::sort3(a, n);
     if n == 0 {
-        return answers::refuse(33, 0, 0, 0, 0);
+        return Err(Refusal::NoActiveSegments);
     }
     judge_walked(walk(a, n, 0, 65535))
 }

@@ -11,21 +11,19 @@ use lib.Dec.{eqb, ltb}
 use lib.ListN.{length, get_or, drop, drop_of_length-le}
 use lib.Seq.{drop-cons}
 use Rattle.words.specs.Part.{part}
-use Rattle.words.specs.Table.{ids, where_is}
-use Rattle.words.specs.declared.Found.{Found}
-use Rattle.words.specs.declared.Found.TheVariants.{At, Nothing}
+use Rattle.words.specs.Table.{ids, where_is, Found, At, Nothing}
 use Rattle.words.proofs.PartLaws.{part_length, part_at}
 use Rattle.lists.specs.Lists.{none}
-use Rattle.answers.specs.declared.Judged.{Judged}
-use Rattle.answers.specs.declared.Judged.TheVariants.{Accepted}
-use Rattle.answers.specs.Answer.{refuse1}
+use Rattle.answers.specs.Answer.{Judged, Accepted, Refused}
 use Rattle.rules.specs.Model.{Segment, lookup}
 use Rattle.rules.specs.Tables.{held_width, parents_at, children_at}
+use Rattle.types.specs.declared.records.Side.TheVariants.{Parents, Children}
 use Rattle.rules.specs.Tiling.{parent_count, all_single, one_merged, tiling_rule, split_rule, fork_rule, join_rule}
 use Rattle.tabled.specs.Image.{Image, image_segments}
 use Rattle.transitions.specs.Edged.{segment_of, Edged}
 use Rattle.transitions.proofs.Rowed.{row-id, found_none, found-row, found_some, parents-length, children-length}
 use Rattle.transitions.proofs.Edges.{parents-same}
+use Rattle.answers.specs.declared.Refusal.TheVariants.{ConflictingTopology}
 
 -- ---- the parents of the segment with an id
 
@@ -40,21 +38,21 @@ module _ (w : List ℕ) (n e id : ℕ) (f : Found) (g : Image w n e) (said : f �
 -- ---- each has one parent: the ids are a part of the words
 
 module _ (ss : List Segment) (w : List ℕ) (from count i : ℕ) (fits : from + count ≤ length w) (rest : all_single ss (part w from count) ≡ all_single ss (drop i (part w from count))) where
-  pub single-end : count ≤ i → true ≡ all_single ss (part w from count)
+  pub single_end : count ≤ i → true ≡ all_single ss (part w from count)
   unfolding all_single
-  single-end h = rw (rest, drop_of_length-le (part w from count) {i = i} (rw (part_length w from count fits) h))
+  single_end h = rw (rest, drop_of_length-le (part w from count) {i = i} (rw (part_length w from count fits) h))
 
   module _ (below : i < count) (p : ℕ) (said : p ≡ parent_count (lookup (get_or w (from + i) 0) ss)) where
     next : drop i (part w from count) ≡ get_or w (from + i) 0 ∷ drop (i + 1) (part w from count)
     next = rw (add-one i, drop-cons (part w from count) i 0 (rw (part_length w from count fits) below), part_at w from count i below) refl
 
-    pub single-other : (p ≡ 1 → ⊥) → false ≡ all_single ss (part w from count)
+    pub single_other : (p ≡ 1 → ⊥) → false ≡ all_single ss (part w from count)
     unfolding all_single
-    single-other h = rw (rest, next, ← said, ne_eqb p 1 h)
+    single_other h = rw (rest, next, ← said, ne_eqb p 1 h)
 
-    pub single-next : p ≡ 1 → all_single ss (part w from count) ≡ all_single ss (drop (i + 1) (part w from count))
+    pub single_next : p ≡ 1 → all_single ss (part w from count) ≡ all_single ss (drop (i + 1) (part w from count))
     unfolding all_single
-    single-next h = rw (rest, next, ← said, eq-eqb p 1 h)
+    single_next h = rw (rest, next, ← said, eq-eqb p 1 h)
 
 -- ---- one only, with several parents
 
@@ -71,36 +69,36 @@ merged-head ss (x ∷ []) h = refl
 merged-head ss (x ∷ y ∷ l) h = absurd (omega arith)
 
 module _ (ss : List Segment) (w : List ℕ) (from count : ℕ) (fits : from + count ≤ length w) where
-  pub merged-other : (count ≡ 1 → ⊥) → false ≡ one_merged ss (part w from count)
-  merged-other h = merged-list ss (part w from count) (λ z. h (sym (part_length w from count fits) ∙ z))
+  pub merged_other : (count ≡ 1 → ⊥) → false ≡ one_merged ss (part w from count)
+  merged_other h = merged-list ss (part w from count) (λ z. h (sym (part_length w from count fits) ∙ z))
 
-  pub merged-one : (p : ℕ) (b : Bool) → count ≡ 1 → p ≡ parent_count (lookup (get_or w from 0) ss) → b ≡ ltb 1 p → b ≡ one_merged ss (part w from count)
-  merged-one p b h said v =
+  pub merged_one : (p : ℕ) (b : Bool) → count ≡ 1 → p ≡ parent_count (lookup (get_or w from 0) ss) → b ≡ ltb 1 p → b ≡ one_merged ss (part w from count)
+  merged_one p b h said v =
       let at : get_or (part w from count) 0 0 ≡ get_or w from 0 = part_at w from count 0 (omega arith) ∙ ap (λ (k : ℕ). get_or w k 0) (omega arith) in
       v ∙ ap (ltb 1) (said ∙ ap (λ (x : ℕ). parent_count (lookup x ss)) (sym at)) ∙ merged-head ss (part w from count) (part_length w from count fits ∙ h)
 
 -- ---- the rules: `list` are the segment's children, or its parents
 
 module _ (ss : List Segment) (s : Segment) (list : List ℕ) (same : list ≡ s.children) (r : Judged) (b : Bool) (single : b ≡ all_single ss list) where
-  pub split-tiles : b ≡ true → r ≡ tiling_rule 31 ss s list → r ≡ split_rule ss s
+  pub split-tiles : b ≡ true → r ≡ tiling_rule Children ss s list → r ≡ split_rule ss s
   unfolding split_rule
   split-tiles told v =
       let k : all_single ss s.children ≡ true = ap (all_single ss) (sym same) ∙ sym single ∙ told in
-      rw k (v ∙ ap (tiling_rule 31 ss s) same)
+      rw k (v ∙ ap (tiling_rule Children ss s) same)
 
   module _ (m : Bool) (merged : m ≡ one_merged ss list) (no : b ≡ false) where
     pub split-merged : m ≡ true → r ≡ Accepted → r ≡ split_rule ss s
     unfolding split_rule
     split-merged told v = rw (← same, ← single, no, ← merged, told) v
 
-    split-refused : m ≡ false → r ≡ refuse1 30 s.head.id → r ≡ split_rule ss s
+    split-refused : m ≡ false → r ≡ Refused (ConflictingTopology s.head.id) → r ≡ split_rule ss s
     unfolding split_rule
     split-refused told v = rw (← same, ← single, no, ← merged, told) v
 
 pub split-conflict : (w list : List ℕ) (n e i : ℕ) → i < n → list ≡ (segment_of w n e i).children → (b m : Bool) → b ≡ all_single (image_segments w n e) list → b ≡ false
-    → m ≡ one_merged (image_segments w n e) list → m ≡ false → (r : Judged) → r ≡ refuse1 30 (get_or w (i * held_width) 0) → r ≡ split_rule (image_segments w n e) (segment_of w n e i)
+    → m ≡ one_merged (image_segments w n e) list → m ≡ false → (r : Judged) → r ≡ Refused (ConflictingTopology (get_or w (i * held_width) 0)) → r ≡ split_rule (image_segments w n e) (segment_of w n e i)
 split-conflict w list n e i below same b m single off merged two r v =
-    split-refused (image_segments w n e) (segment_of w n e i) list same r b single m merged off two (v ∙ ap (refuse1 30) (sym (row-id w n i below)))
+    split-refused (image_segments w n e) (segment_of w n e i) list same r b single m merged off two (v ∙ ap (λ (x : ℕ). Refused (ConflictingTopology x)) (sym (row-id w n i below)))
 
 none-length : (l : List ℕ) (n : ℕ) → length l ≡ n → none l ≡ eqb n 0
 none-length [] n h = rw (eq-eqb n 0 (sym h))
@@ -127,6 +125,6 @@ module _ (w : List ℕ) (n e i start at count : ℕ) (g : Edged w n e i start at
     unfolding join_rule
     join-none h v = rw (size, le-ltb 1 count h) v
 
-    pub join-some : 1 < count → r ≡ tiling_rule 32 (image_segments w n e) (segment_of w n e i) (part w start count) → r ≡ join_rule (image_segments w n e) (segment_of w n e i)
+    pub join-some : 1 < count → r ≡ tiling_rule Parents (image_segments w n e) (segment_of w n e i) (part w start count) → r ≡ join_rule (image_segments w n e) (segment_of w n e i)
     unfolding join_rule
-    join-some h v = rw (size, lt-ltb 1 count h) (v ∙ ap (tiling_rule 32 (image_segments w n e) (segment_of w n e i)) (parents-same w n e i start at g count said))
+    join-some h v = rw (size, lt-ltb 1 count h) (v ∙ ap (tiling_rule Parents (image_segments w n e) (segment_of w n e i)) (parents-same w n e i start at g count said))

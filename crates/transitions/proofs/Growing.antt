@@ -7,9 +7,7 @@ use mathlib.Core.List.{List, [], ◌∷◌, ◌++◌, append-nil}
 use lib.ListN.{length, take, drop, set, length-set}
 use lib.Seq.{take_all, take-take, take-suc-set}
 use Rattle.words.specs.Part.{part, put}
-use Rattle.words.specs.Table.{ids, where_is}
-use Rattle.words.specs.declared.Found.{Found}
-use Rattle.words.specs.declared.Found.TheVariants.{At, Nothing}
+use Rattle.words.specs.Table.{ids, where_is, Found, At, Nothing}
 use Rattle.words.proofs.PartLaws.{Loan, loan, part-as, part_length}
 use Rattle.lists.specs.Sort.{Row}
 use Rattle.sorts.specs.Rows.{rows}

@@ -10,11 +10,11 @@ use Rattle.words.specs.Part.{part, put}
 use Rattle.words.proofs.PartLaws.{Loan, loan, part-as}
 use Rattle.lists.specs.Sort.{Row}
 use Rattle.sorts.specs.Rows.{rows}
-use Rattle.answers.specs.declared.Judged.{Judged}
-use Rattle.answers.specs.declared.Judged.TheVariants.{Accepted}
-use Rattle.answers.specs.Answer.{refuse1}
+use Rattle.answers.specs.declared.Refusal.{Refusal}
+use Rattle.answers.specs.Answer.{Judged, Accepted, Refused}
 use Rattle.rules.specs.Tables.{held_width}
-use Rattle.rules.specs.Tiling.{tiles, ranges_of, tiling_rule, coverage_rule}
+use Rattle.types.specs.declared.records.Side.{Side}
+use Rattle.rules.specs.Tiling.{tiles, ranges_of, uncovered, tiling_rule, coverage_rule}
 use Rattle.tabled.specs.Image.{image_segments}
 use Rattle.transitions.specs.Ranges.{ranges}
 use Rattle.transitions.specs.Edged.{segment_of}
@@ -32,15 +32,15 @@ lent w at k = ap rows (part-as w at (at + 3 * k) (3 * k) refl)
 pub lent-coverage : (w : List ℕ) (at k : ℕ) (l : List Row) (r : Judged) → ranges w at k ≡ l → r ≡ coverage_rule (rows (part w at (at + 3 * k - at))) → r ≡ coverage_rule l
 lent-coverage w at k l r placed v = v ∙ ap coverage_rule (lent w at k ∙ placed)
 
-module _ (number : ℕ) (w₀ w list : List ℕ) (n e i at k : ℕ) (below : i < n) (placed : ranges w at k ≡ ranges_of (image_segments w₀ n e) list) (b : Bool)
+module _ (side : Side) (w₀ w list : List ℕ) (n e i at k : ℕ) (below : i < n) (placed : ranges w at k ≡ ranges_of (image_segments w₀ n e) list) (b : Bool)
     (said : b ≡ tiles (get_or w₀ (i * held_width + 1) 0) (get_or w₀ (i * held_width + 2) 0) (rows (part w at (at + 3 * k - at)))) where
   is : tiles (segment_of w₀ n e i).head.start (segment_of w₀ n e i).head.end (ranges_of (image_segments w₀ n e) list) ≡ b
   is = rw (row_word w₀ n i 1 below (omega arith), row_word w₀ n i 2 below (omega arith)) (sym (said ∙ ap (tiles (get_or w₀ (i * held_width + 1) 0) (get_or w₀ (i * held_width + 2) 0)) (lent w at k ∙ placed)))
 
-  pub lent-yes : b ≡ true → Accepted ≡ tiling_rule number (image_segments w₀ n e) (segment_of w₀ n e i) list
+  pub lent-yes : b ≡ true → Accepted ≡ tiling_rule side (image_segments w₀ n e) (segment_of w₀ n e i) list
   unfolding tiling_rule
   lent-yes told = rw (is, told) refl
 
-  pub lent-no : b ≡ false → (r : Judged) → r ≡ refuse1 number (get_or w₀ (i * held_width) 0) → r ≡ tiling_rule number (image_segments w₀ n e) (segment_of w₀ n e i) list
+  pub lent-no : b ≡ false → (r : Refusal) → r ≡ uncovered side (get_or w₀ (i * held_width) 0) → Refused r ≡ tiling_rule side (image_segments w₀ n e) (segment_of w₀ n e i) list
   unfolding tiling_rule
   lent-no told r v = rw (v, is, told, row-id w₀ n i below) refl

@@ -7,9 +7,7 @@ use mathlib.Core.Path.{◌≡◌, refl, sym, ap, ◌∙◌}
 use mathlib.Core.List.{List, [], ◌∷◌}
 use lib.ListN.{length, take, drop}
 use Rattle.answers.specs.declared.Refusal.{Refusal}
-use Rattle.answers.specs.declared.Judged.{Judged}
-use Rattle.answers.specs.declared.Judged.TheVariants.{Accepted, Refused}
-use Rattle.answers.specs.Answer.{◌then◌}
+use Rattle.answers.specs.Answer.{◌then◌, Judged, Accepted, Refused}
 use Rattle.answers.proofs.Judging.{then-accepted}
 use Rattle.rules.specs.Model.{Segment}
 use Rattle.rules.specs.Tables.{held_width, parents_at, children_at, start_of}

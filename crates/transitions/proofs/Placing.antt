@@ -6,7 +6,6 @@ use native.Mathlib.Omega.{arith}
 use mathlib.Core.Path.{◌≡◌, refl, sym, ap, ◌∙◌}
 use mathlib.Core.Bool.{Bool, true, false, cond}
 use mathlib.Core.List.{List, [], ◌∷◌, ◌++◌, append-nil, append_assoc}
-use borrow.Author.Tests.{eq-eqb, ne_eqb}
 use lib.Dec.{eqb}
 use lib.ListN.{length, get_or, take, drop, drop_of_length-le}
 use lib.Seq.{drop-cons}
@@ -17,11 +16,11 @@ use Rattle.rules.specs.Model.{Segment, lookup}
 use Rattle.rules.specs.Tables.{held_width}
 use Rattle.rules.specs.Tiling.{range_of, range_found, ranges_of, active_of}
 use Rattle.tabled.specs.Image.{Image, image_segments}
-use Rattle.transitions.specs.Ranges.{ranges, range_at, Grown, active_one}
+use Rattle.transitions.specs.Ranges.{ranges, Grown, active_one}
 use Rattle.transitions.specs.Edged.{segment_of}
 use Rattle.tabled.proofs.Kept.{word_kept, segments-kept, image-kept}
 use Rattle.transitions.proofs.Kept.{segment-kept}
-use Rattle.transitions.proofs.Rowed.{row_word, range-row, segments-drop, segments-done}
+use Rattle.transitions.proofs.Rowed.{segments-drop, segments-done}
 
 -- w₀ became w, with k ranges from `at` on where i things are passed: they are all of `all` but those of the rest
 pub record Placed (w₀ w : List ℕ) (at k i : ℕ) (all rest : List Row) : Type 0 where
@@ -78,14 +77,6 @@ module _ (w₀ w : List ℕ) (n e from count at k i : ℕ) (g : Image w₀ n e) 
         (ranges_of (image_segments w₀ n e) (drop (i + 1) (part w₀ from count))) len (rw rest-is at p) o
 
 -- ---- the Active rows
-
-module _ (w : List ℕ) (n e at k i : ℕ) (g : Image w n e) (below : i < n) where
-  pub one-skip : (get_or w (i * held_width + 3) 0 ≡ 1 → ⊥) → Grown w w at k k (active_one (segment_of w n e i))
-  one-skip state =
-      rw (row_word w n i 3 below (omega arith), ne_eqb _ _ state) (record { few = omega arith; kept = refl; here = sym (append-nil (ranges w at k)) })
-
-  pub one_hit : (w' : List ℕ) → get_or w (i * held_width + 3) 0 ≡ 1 → Grown w w' at k (k + 1) (range_at w i ∷ []) → Grown w w' at k (k + 1) (active_one (segment_of w n e i))
-  one_hit w' state o = rw (row_word w n i 3 below (omega arith), eq-eqb _ _ state) (rw (range-row w n e g i below) o)
 
 active-cons : (s : Segment) (ss : List Segment) → active_of (s ∷ ss) ≡ active_one s ++ active_of ss
 unfolding active_of

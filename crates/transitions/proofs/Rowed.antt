@@ -9,9 +9,7 @@ use native.Mathlib.Numerals.{add-one}
 use lib.ListN.{length, get_or, drop, drop_of_length-le}
 use lib.Seq.{get_or-take, ext_get_or, drop-cons}
 use Rattle.words.specs.Part.{part}
-use Rattle.words.specs.Table.{ids, Ascends, where_is}
-use Rattle.words.specs.declared.Found.{Found}
-use Rattle.words.specs.declared.Found.TheVariants.{At, Nothing}
+use Rattle.words.specs.Table.{ids, Ascends, where_is, Found, At, Nothing}
 use Rattle.words.proofs.PartLaws.{part_length, part_in}
 use Rattle.words.proofs.TableLaws.{length_ids, ids_at, row-found}
 use Rattle.rules.specs.Model.{Segment, lookup}

@@ -7,8 +7,8 @@ ghost use Rattle.rules.specs.Tiling.{parent_count, all_single, one_merged, split
 ghost use Rattle.tabled.specs.Image.{Image, image_segments};
 ghost use Rattle.transitions.specs.Edged.{segment_of, Listed, Edged};
 
-use answers::Judged;
-use words::Found;
+use answers::Refusal;
+use types::records::Side;
 
 // How many parents the segment with that id has; 0 where there is none.
 fn parent_count(w: &[u64], n: usize, e: usize, id: u64) -> usize
@@ -16,28 +16,28 @@ fn parent_count(w: &[u64], n: usize, e: usize, id: u64) -> usize
     ensures { result ≡ parent_count (lookup id (image_segments w.now n e)) }
 {
     match words::find_row(w, rules::HELD, n, id) {
-        Found::At(i) => crate::row::parents(w, i),
-        Found::Nothing => 0,
+        Some(i) => crate::row::parents(w, i),
+        None => 0,
     }
 }
 
 // Has each of the count segments whose ids begin at word `from` one parent?
+#[tactic(auto, using(crate::proofs::Forked::single_other, crate::proofs::Forked::single_next, crate::proofs::Forked::single_end))]
 fn all_single(w: &[u64], n: usize, e: usize, from: usize, count: usize) -> bool
     requires image { Image w.now n e }
     requires count_in_bounds { from + count ≤ length w.now }
     ensures { result ≡ all_single (image_segments w.now n e) (part w.now from count) }
 {
-    let mut i = 0;
-    while i < count {
+    for i in 0..count {
         if parent_count(w, n, e, w[from + i]) != 1 {
             return false;
         }
-        i += 1;
     }
     true
 }
 
 // Is there one of them only, with several parents?
+#[tactic(auto, using(crate::proofs::Forked::merged_other, crate::proofs::Forked::merged_one))]
 fn one_merged(w: &[u64], n: usize, e: usize, from: usize, count: usize) -> bool
     requires image { Image w.now n e }
     requires count_in_bounds { from + count ≤ length w.now }
@@ -58,23 +58,32 @@ fn judge_split(
     from: usize,
     count: usize,
     at: usize,
-) -> Judged
+) -> Result<(), Refusal>
     requires listed { Listed w.old n e i from count at }
     requires count_value { part w.old from count ≡ (segment_of w.old n e i).children }
     ensures value { result ≡ split_rule (image_segments w.old n e) (segment_of w.old n e i) }
     ensures w_unchanged { take at w.new ≡ take at w.old }
 {
     if all_single(w, n, e, from, count) {
-        return crate::tile::judge_tiling(31, w, n, e, i, from, count, at);
+        return crate::tile::judge_tiling(Side::Children, w, n, e, i, from, count, at);
     }
     if one_merged(w, n, e, from, count) {
-        return Judged::Accepted;
+        return Ok(());
     }
-    answers::refuse(30, w[i * rules::HELD], 0, 0, 0)
+    Err(Refusal::ConflictingTopology {
+        id: w[i * rules::HELD],
+    })
 }
 
 // Row i, whose edges begin at word `start`; a segment with no children is no parent.
-fn judge_fork(w: &mut [u64], n: usize, e: usize, i: usize, start: usize, at: usize) -> Judged
+fn judge_fork(
+    w: &mut [u64],
+    n: usize,
+    e: usize,
+    i: usize,
+    start: usize,
+    at: usize,
+) -> Result<(), Refusal>
     requires { Edged w.old n e i start at }
     ensures value { result ≡ fork_rule (image_segments w.old n e) (segment_of w.old n e i) }
     ensures w_unchanged { take at w.new ≡ take at w.old }
@@ -82,13 +91,13 @@ fn judge_fork(w: &mut [u64], n: usize, e: usize, i: usize, start: usize, at: usi
     let from = start + crate::row::parents(w, i);
     let count = crate::row::children(w, i);
     if count == 0 {
-        return Judged::Accepted;
+        return Ok(());
     }
     judge_split(w, n, e, i, from, count, at)
 }
 
 // Every row in turn, ascending by id.
-pub fn judge_forks(w: &mut [u64], n: usize, e: usize, at: usize) -> Judged
+pub fn judge_forks(w: &mut [u64], n: usize, e: usize, at: usize) -> Result<(), Refusal>
     requires image { Image w.old n e }
     requires e_bound { n * held_width + e ≤ at }
     requires e_in_bounds { at + 3 * e ≤ length w.old }
@@ -96,15 +105,10 @@ pub fn judge_forks(w: &mut [u64], n: usize, e: usize, at: usize) -> Judged
     ensures w_unchanged { take at w.new ≡ take at w.old }
 {
     let mut start = n * rules::HELD;
-    let mut i = 0;
-    while i < n {
+    for i in 0..n {
         let end = crate::row::edges_end(w, i, start);
-        let judged = judge_fork(w, n, e, i, start, at);
-        let Judged::Accepted = judged else {
-            return judged;
-        };
+        judge_fork(w, n, e, i, start, at)?;
         start = end;
-        i += 1;
     }
-    Judged::Accepted
+    Ok(())
 }

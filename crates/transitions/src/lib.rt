@@ -8,7 +8,7 @@ ghost use Rattle.rules.specs.Tiling.{forks_from, joins_from, active_of, coverage
 ghost use Rattle.answers.specs.Answer.{◌then◌};
 ghost use Rattle.tabled.specs.Image.{Image, image_segments};
 
-use answers::Judged;
+use answers::Refusal;
 
 pub mod forks;
 pub mod joins;
@@ -17,22 +17,19 @@ pub mod row;
 pub mod tile;
 
 // 30 and 31 over all rows, then 32.
-pub fn judge_transitions(w: &mut [u64], n: usize, e: usize, at: usize) -> Judged
+pub fn judge_transitions(w: &mut [u64], n: usize, e: usize, at: usize) -> Result<(), Refusal>
     requires image { Image w.old n e }
     requires e_bound { n * held_width + e ≤ at }
     requires e_in_bounds { at + 3 * e ≤ length w.old }
     ensures value { result ≡ (forks_from (image_segments w.old n e) (image_segments w.old n e) then joins_from (image_segments w.old n e) (image_segments w.old n e)) }
     ensures w_unchanged { take at w.new ≡ take at w.old }
 {
-    let judged = forks::judge_forks(w, n, e, at);
-    let Judged::Accepted = judged else {
-        return judged;
-    };
+    forks::judge_forks(w, n, e, at)?;
     joins::judge_joins(w, n, e, at)
 }
 
 // 33 to 35 over the Active segments.
-pub fn judge_active(w: &mut [u64], n: usize, e: usize, at: usize) -> Judged
+pub fn judge_active(w: &mut [u64], n: usize, e: usize, at: usize) -> Result<(), Refusal>
     requires image { Image w.old n e }
     requires e_bound { n * held_width + e ≤ at }
     requires n_in_bounds { at + 3 * n ≤ length w.old }

@@ -8,8 +8,6 @@ ghost use Rattle.tabled.specs.Image.{Image, image_segments};
 ghost use Rattle.transitions.specs.Ranges.{ranges, range_at, Grown, active_one};
 ghost use Rattle.transitions.specs.Edged.{segment_of};
 
-use words::Found;
-
 // The range of row i behind the k ranges.
 fn place_row(w: &mut [u64], at: usize, k: usize, i: usize)
     requires held_width_in_bounds { i * held_width + held_width ≤ length w.old }
@@ -17,8 +15,8 @@ fn place_row(w: &mut [u64], at: usize, k: usize, i: usize)
     ensures { Grown w.old w.new at k (k + 1) (range_at w.old i ∷ []) }
 {
     let t = i * rules::HELD;
-    let start = w[t + 1];
-    let end = w[t + 2];
+    let start = w[t + rules::START];
+    let end = w[t + rules::END];
     let id = w[t];
     let stop = at + 3 * k + 3;
     sorts::put3(&mut w[at..stop], k, start, end, id);
@@ -31,11 +29,11 @@ fn place_id(w: &mut [u64], n: usize, e: usize, at: usize, k: usize, id: u64) -> 
     ensures { Grown w.old w.new at k result (range_found (lookup id (image_segments w.old n e))) }
 {
     match words::find_row(w, rules::HELD, n, id) {
-        Found::At(i) => {
+        Some(i) => {
             place_row(w, at, k, i);
             k + 1
         }
-        Found::Nothing => k,
+        None => k,
     }
 }
 
@@ -57,11 +55,9 @@ pub fn place_listed(
     ensures w_unchanged { take at w.new ≡ take at w.old }
 {
     let mut k = 0;
-    let mut i = 0;
-    while i < count {
+    for i in 0..count {
         let id = w[from + i];
         k = place_id(w, n, e, at, k, id);
-        i += 1;
     }
     k
 }
@@ -73,7 +69,7 @@ fn place_one(w: &mut [u64], n: usize, e: usize, at: usize, k: usize, i: usize) -
     requires k_in_bounds { at + 3 * k + 3 ≤ length w.old }
     ensures { Grown w.old w.new at k result (active_one (segment_of w.old n e i)) }
 {
-    if w[i * rules::HELD + 3] != 1 {
+    if w[i * rules::HELD + rules::STATE] != 1 {
         return k;
     }
     place_row(w, at, k, i);
@@ -90,10 +86,8 @@ pub fn place_active(w: &mut [u64], n: usize, e: usize, at: usize) -> usize
     ensures w_unchanged { take at w.new ≡ take at w.old }
 {
     let mut k = 0;
-    let mut i = 0;
-    while i < n {
+    for i in 0..n {
         k = place_one(w, n, e, at, k, i);
-        i += 1;
     }
     k
 }

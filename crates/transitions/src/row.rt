@@ -6,20 +6,20 @@ pub fn parents(w: &[u64], i: usize) -> usize
     requires { i * held_width + held_width ≤ length w.now }
     ensures { result ≡ parents_at w.now (i * held_width) }
 {
-    w[i * rules::HELD + 9] as usize
+    w[i * rules::HELD + rules::PARENTS] as usize
 }
 
 pub fn children(w: &[u64], i: usize) -> usize
     requires { i * held_width + held_width ≤ length w.now }
     ensures { result ≡ children_at w.now (i * held_width) }
 {
-    w[i * rules::HELD + 10] as usize
+    w[i * rules::HELD + rules::CHILDREN] as usize
 }
 
 // Where they end that begin at word `start`.
 pub fn edges_end(w: &[u64], i: usize, start: usize) -> usize
     requires held_width_in_bounds { i * held_width + held_width ≤ length w.now }
-    requires held_width_in_bounds_2 { start + parents_at w.now (i * held_width) + children_at w.now (i * held_width) ≤ length w.now }
+    requires edges_in_area { start + parents_at w.now (i * held_width) + children_at w.now (i * held_width) ≤ length w.now }
     ensures { result ≡ start + parents_at w.now (i * held_width) + children_at w.now (i * held_width) }
 {
     start + parents(w, i) + children(w, i)

@@ -1,54 +1,17 @@
 -- The tournament tree:
---     slot-set, climb, done     a store at a slot, a store on the way up, and the end of the way
 --     least-le, least-low, least-hit     the least of a list is below all of them, and is one of them or n
 --     root, no-slots     the root is the least slot, by way of the word's parent and of the lesser child
---     all-n, all_words     the tree of the empty set
 -- Assumes nothing.
 use mathlib.Core.Path.{◌≡◌, refl, sym, ap, ◌∙◌}
-use mathlib.Core.List.{List, [], ◌∷◌, ◌++◌, append-nil}
+use mathlib.Core.List.{List, [], ◌∷◌}
 use mathlib.Core.Logic.{◌⊎◌, inl, inr}
 use Prim.Native.Nat.{ℕ, zero-le, zero, suc, ◌+◌, ◌-◌, ◌*◌, ◌/◌, ◌<◌, ◌≤◌, min}
-use native.Mathlib.Nat.{two-mul, zero-add, suc-add, min-eq_left, min-eq_right, le_antisymm, le_of_suc-le-suc, le_refl, le_trans}
+use native.Mathlib.Nat.{min-eq_left, min-eq_right, le_antisymm, le_of_suc-le-suc, le_refl, le_trans}
 use native.Mathlib.Decide.{ℕ_discrete, dec_le}
 use native.Mathlib.Omega.{arith}
-use lib.ListN.{length, get_or, drop, set, replicate, length-set, length-drop, get_or-replicate, get_or-eq_default}
-use lib.Seq.{drop-length, get_or-set_same, get_or-set_other, get_or-drop}
-use Rattle.tree.specs.Tree.{Lesser, Tree, TreeBut, Low, least}
-
--- after the last store nothing is left to mend
-pub done : (n : ℕ) (t : List ℕ) → TreeBut n t 0 → Tree n t
-done n t b = record { size = b.size; node = λ k l h. b.node k l h (omega arith) }
-
--- a store that is not in m's neighbourhood
-lesser-kept : (t : List ℕ) (j v m : ℕ) → (m ≡ j → ⊥) → (2 * m ≡ j → ⊥) → (2 * m + 1 ≡ j → ⊥) → Lesser t m → Lesser (set t j v) m
-lesser-kept t j v m p q r h = rw (get_or-set_other t j m v 0 p, get_or-set_other t j (2 * m) v 0 q, get_or-set_other t j (2 * m + 1) v 0 r) h
-
-lesser-made : (t : List ℕ) (k : ℕ) → 0 < k → k < length t → Lesser (set t k (min (get_or t (2 * k) 0) (get_or t (2 * k + 1) 0))) k
-lesser-made t k p l =
-    let v = min (get_or t (2 * k) 0) (get_or t (2 * k + 1) 0) in
-    rw (get_or-set_same t k v 0 l, get_or-set_other t k (2 * k) v 0 (omega arith), get_or-set_other t k (2 * k + 1) v 0 (omega arith)) refl
-
--- one step of the way up
-pub climb : (n : ℕ) (t : List ℕ) (k : ℕ) → TreeBut n t k → 0 < k → k < n → TreeBut n (set t k (min (get_or t (2 * k) 0) (get_or t (2 * k + 1) 0))) (k / 2)
-climb n t k b p l =
-    let v = min (get_or t (2 * k) 0) (get_or t (2 * k + 1) 0) in
-    record { size = length-set t k v ∙ b.size; node = λ m a h ne. go m a h ne (ℕ_discrete m k) }
-  where
-    go : (m : ℕ) → 1 ≤ m → m < n → (m ≡ k / 2 → ⊥) → Dec (m ≡ k) → Lesser (set t k (min (get_or t (2 * k) 0) (get_or t (2 * k + 1) 0))) m
-    go m a h ne (yes e) = rw e (lesser-made t k p (omega (arith, b.size)))
-    go m a h ne (no q) = lesser-kept t k _ m q (omega arith) (omega arith) (b.node m a h q)
-
--- a slot is stored
-pub slot-set : (n : ℕ) (t : List ℕ) (i v : ℕ) → Tree n t → TreeBut n (set t (n + i) v) ((n + i) / 2)
-slot-set n t i v b = record { size = length-set t (n + i) v ∙ b.size; node = λ m a h ne. lesser-kept t (n + i) v m (omega arith) (omega arith) (omega arith) (b.node m a h) }
-
--- every word n
-pub all-n : (n : ℕ) → Tree n (replicate (2 * n) n)
-all-n n = record { size = lib.ListN.length-replicate (2 * n) n; node = λ k a h. rw (get_or-replicate (2 * n) k n 0 (omega arith), get_or-replicate (2 * n) (2 * k) n 0 (omega arith), get_or-replicate (2 * n) (2 * k + 1) n 0 (omega arith)) (sym (min-eq_left (le_refl n))) }
-
-pub drop-replicate : (n m v : ℕ) → drop n (replicate (n + m) v) ≡ replicate m v
-drop-replicate zero m v = rw zero-add
-drop-replicate (suc n) m v = rw suc-add (drop-replicate n m v)
+use lib.ListN.{length, get_or, drop, length-drop}
+use lib.Seq.{get_or-drop}
+use Rattle.tree.specs.Tree.{Tree, Low, least}
 
 min-case : (a b : ℕ) → (min a b ≡ a) ⊎ (min a b ≡ b)
 min-case a b = go (dec_le a b)
@@ -143,15 +106,6 @@ root n t b p low = le_antisymm (below (least-hit (drop n t) n)) above
         let x : get_or t (n + i) 0 ≡ get_or t s.0 0 = ap (λ (j : ℕ). get_or t j 0) (sym (omega (arith, s.1))) in
         omega (arith, s.3, least-le (drop n t) n i (omega (arith, b.size, s.1, s.2)))
 
-pub at_zero : (k : ℕ) → k ≤ 0 → k ≡ 0
-at_zero k h = omega arith
-
 -- a tree of no slots
 pub no-slots : (n : ℕ) (t : List ℕ) → Tree n t → n ≡ 0 → 0 ≡ least (drop n t) n
 no-slots n t b e = le_antisymm zero-le (le_trans (least-low (drop n t) n) (omega arith))
-
--- all words filled
-pub all_words : (n : ℕ) (t₀ t : List ℕ) (j : ℕ) → length t₀ ≡ 2 * n → t ≡ replicate j n ++ drop j t₀ → j ≡ length t₀ → Tree n t × (drop n t ≡ replicate n n)
-all_words n t₀ t j s e h =
-    let w : t ≡ replicate (2 * n) n = e ∙ rw (h, drop-length, append-nil, s) refl in
-    (rw w (all-n n), rw (w, two-mul) (drop-replicate n n n))

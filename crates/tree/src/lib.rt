@@ -6,12 +6,6 @@
 ghost use Rattle.std.specs.Prelude.{◌≡◌, ℕ, ◌+◌, ◌*◌, ◌/◌, ◌<◌, ◌≤◌, min, length, get_or, drop, set, replicate};
 ghost use Rattle.tree.specs.Tree.{Tree, TreeBut, Low, least};
 
-fn lesser(a: u64, b: u64) -> u64
-    ensures { result ≡ min a b }
-{
-    if a < b { a } else { b }
-}
-
 // Puts the words above the word `from` right again.
 fn lift(t: &mut [u64], n: usize, from: usize)
     requires { TreeBut n t.old (from / 2) × (from < 2 * n) }
@@ -19,7 +13,7 @@ fn lift(t: &mut [u64], n: usize, from: usize)
 {
     let mut k = from / 2;
     while 0 < k {
-        t[k] = lesser(t[2 * k], t[2 * k + 1]);
+        t[k] = t[2 * k].min(t[2 * k + 1]);
         k = k / 2;
     }
 }
@@ -47,10 +41,5 @@ pub fn clear_tree(t: &mut [u64], n: usize)
     requires { length t.old ≡ 2 * n }
     ensures { Tree n t.new × (drop n t.new ≡ replicate n n) }
 {
-    let v = n as u64;
-    let mut j = 0;
-    while j < t.len() {
-        t[j] = v;
-        j += 1;
-    }
+    t.fill(n as u64);
 }

@@ -1,6 +1,6 @@
 // Ids, row numbers, and what goes in and comes out by value. Texts are numbers: 0 is the empty one. What a host in another language
 // hands over by value has the layout of C.
-use answers::{Refusal, Updated};
+use answers::Updated;
 
 // A segment, whatever row it stands in.
 #[derive(Clone, Copy)]
@@ -9,6 +9,13 @@ pub struct SegmentId(pub u64);
 // A row of a table, whatever segment stands there.
 #[derive(Clone, Copy)]
 pub struct RowIndex(pub usize);
+
+// Which edges of a segment.
+#[derive(Clone, Copy, PartialEq, Eq, Debug)]
+pub enum Side {
+    Parents,
+    Children,
+}
 
 // An optional field of a table: a flag (0 absent, 1 present) and a word, which is unread when absent.
 #[derive(Clone, Copy)]
@@ -39,26 +46,12 @@ pub struct Broker {
     pub tls: Optional,
 }
 
-// The placement that is joined to a segment row, if there is one.
-#[derive(Clone, Copy)]
-pub enum Placed {
-    Nowhere,
-    At(Broker),
-}
-
 // A held row of 15 words, by value: absent optional words are 0.
 #[derive(Clone, Copy)]
 pub struct SegmentDescriptor {
     pub info: SegmentInfo,
     pub url: Optional,
     pub tls: Optional,
-}
-
-// What the descriptor call answers.
-#[derive(Clone, Copy)]
-pub enum Described {
-    Refused(Refusal),
-    Descriptor(SegmentDescriptor),
 }
 
 // Parent-before-child policy of an ordering query.

@@ -9,9 +9,7 @@ use native.Mathlib.Omega.{arith}
 use mathlib.Core.Path.{◌≡◌, refl, sym, ap, ◌∙◌}
 use mathlib.Core.List.{List, []}
 use lib.ListN.{length, get_or}
-use Rattle.words.specs.Table.{ids, where_is, Ascends}
-use Rattle.words.specs.declared.Found.{Found}
-use Rattle.words.specs.declared.Found.TheVariants.{At, Nothing}
+use Rattle.words.specs.Table.{ids, where_is, Ascends, Found, At, Nothing}
 use Rattle.words.proofs.TableLaws.{length_ids, ids_at, is_at, row-found}
 use Rattle.rules.specs.Tables.{held_width, parents_at, children_at, start_of, edges_from, segments_from, held_segments}
 use Rattle.rules.specs.Ancestors.{parents_of, edge_words}

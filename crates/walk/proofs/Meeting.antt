@@ -16,9 +16,7 @@ use Rattle.lists.specs.Lists.{has, ◌∈◌, ◌∉◌}
 use Rattle.lists.proofs.Cases.{lt-or-le}
 use Rattle.lists.proofs.SortLaws.{true-or-false}
 use Rattle.lists.proofs.SetLaws.{never, here, here_eq, there, in-cons, in_left, has-append}
-use Rattle.words.specs.Table.{where_is, Ascends}
-use Rattle.words.specs.declared.Found.{Found}
-use Rattle.words.specs.declared.Found.TheVariants.{At, Nothing}
+use Rattle.words.specs.Table.{where_is, Ascends, Found, At, Nothing}
 use Rattle.words.proofs.TableLaws.{at-is, nothing_is, hit}
 use Rattle.walk.specs.Met.{Met, met, meet_row, meet, meet_all, Single, Held}
 use Rattle.walk.proofs.Singles.{both, out, in-snoc, snoc_old, snoc_new, single-snoc, no_more}

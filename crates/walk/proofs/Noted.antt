@@ -5,13 +5,10 @@ use Prim.Native.Nat.{ℕ, ◌+◌, ◌-◌, ◌*◌, ◌<◌, ◌≤◌}
 use mathlib.Core.Path.{◌≡◌, sym, ap, subst, ◌∙◌}
 use mathlib.Core.List.{List}
 use lib.ListN.{length, get_or, take}
-use Rattle.words.specs.Part.{part}
 use Rattle.words.specs.Table.{ids, Ascends}
 use Rattle.words.proofs.TableLaws.{length_ids, ids_at}
-use Rattle.words.proofs.PartLaws.{part_at}
 use Rattle.rules.specs.Tables.{held_width}
 use Rattle.tabled.proofs.Kept.{part-kept}
-use Rattle.hints.specs.Places.{Places}
 use Rattle.walk.specs.Met.{met, marks_in, list_in, bare_in, met_in, meet_all, Held, StartsIn}
 use Rattle.walk.proofs.Sorting.{part-ids}
 use Rattle.walk.proofs.Steps.{starts-kept}
@@ -20,10 +17,6 @@ use Rattle.walk.proofs.Steps.{starts-kept}
 pub firsts-order : (rows : List ℕ) (n : ℕ) → Ascends (ids rows held_width n) → 2 ≤ n → get_or rows 0 0 < get_or rows ((n - 1) * held_width) 0
 firsts-order rows n up h =
     omega (arith, up 0 (n - 1) (omega arith) (rw length_ids (omega arith)), ids_at rows held_width n 0 (omega arith), ids_at rows held_width n (n - 1) (omega arith))
-
--- places from word g on are places of ids
-pub places-below : (g : ℕ) (v : List ℕ) → Places g (part v g g) → (i : ℕ) → i < g → get_or v (g + i) 0 < g
-places-below g v p i h = rw (part_at v g g i h) at (p.below i h)
 
 -- the words before c are what they were, and with them what was met
 module _ (w w' : List ℕ) (c n len k : ℕ) (same : take c w' ≡ take c w) (fit : 3 * n + 3 * k ≤ c) (ln : len ≤ n) where

@@ -20,9 +20,7 @@ use Rattle.lists.specs.Lists.{has, ◌∈◌, ◌∉◌}
 use Rattle.lists.specs.Sets.{add_all, keep, total}
 use Rattle.lists.proofs.SortLaws.{true-or-false}
 use Rattle.lists.proofs.SetLaws.{never, and_both, and-of, has-place, here, in-cons, in_left, in_right, has-append, in-add, add-here, in_all, all_left, asc-all, asc-keep, in-keep, keep-in, same-ids, total-same, in_take}
-use Rattle.words.specs.Table.{ids, where_is}
-use Rattle.words.specs.declared.Found.{Found}
-use Rattle.words.specs.declared.Found.TheVariants.{At, Nothing}
+use Rattle.words.specs.Table.{ids, where_is, Found, At, Nothing}
 use Rattle.words.proofs.TableLaws.{length_ids, at-is, nothing_is, hit}
 use Rattle.rules.specs.Model.{Segment}
 use Rattle.rules.specs.Tables.{held_width, held_segments}

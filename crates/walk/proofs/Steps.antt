@@ -18,12 +18,10 @@ use lib.ListN.{length, get_or, set, take, drop, length-append, length-set, lengt
 use lib.Seq.{take-set-le, take-set-lt, drop-set-lt, drop-set-add, take-suc-set, get_or-set_same, get_or-set_other, get_or_at, ext_get_or}
 use Rattle.lists.proofs.Cases.{lt-or-le}
 use Rattle.words.specs.Part.{part}
-use Rattle.words.specs.Table.{ids, where_is}
-use Rattle.words.specs.declared.Found.{Found}
-use Rattle.words.specs.declared.Found.TheVariants.{At, Nothing}
+use Rattle.words.specs.Table.{ids, where_is, Found, At, Nothing}
 use Rattle.words.proofs.PartLaws.{part_length, part_at}
 use Rattle.words.proofs.TableLaws.{length_ids, ids_at, row-found}
-use Rattle.rules.specs.Tables.{held_width, start_of}
+use Rattle.rules.specs.Tables.{held_width}
 use Rattle.tabled.proofs.Kept.{word_kept}
 use Rattle.walk.specs.Met.{Met, met, meet_row, meet, Held, marks_in, list_in, bare_in, met_in, StartsIn}
 use Rattle.walk.proofs.Meeting.{room}
@@ -147,12 +145,6 @@ module _ (rows : List ℕ) (n len k p : ℕ) (w : List ℕ) (ln : len ≤ n) (bi
   meet-nothing e = (bare_step n len k p w ln big ∙ sym (ap (λ (q : Found). meet_row q p (met_in n len k w)) (sym is ∙ e)), ln, omega arith, bare-front n len k p w ln big)
 
 -- ---- where the edges of the rows begin
-
-pub starts-next : (rows : List ℕ) (i at : ℕ) (w : List ℕ) → i < length w → StartsIn rows i w → at ≡ start_of held_width rows i → StartsIn rows (i + 1) (set w i at)
-starts-next rows i at w h s e j k = ⊎_elim (λ (l : j < i). get_or-set_other w i j at 0 (λ z. omega arith) ∙ s j l) (λ (l : i ≤ j). let z : j ≡ i = omega arith in rw z (get_or-set_same w i at 0 h ∙ e)) (lt-or-le j i)
-
-pub starts-end : (rows : List ℕ) (i n : ℕ) (w : List ℕ) → n ≤ i → StartsIn rows i w → StartsIn rows n w
-starts-end rows i n w h s j k = s j (omega arith)
 
 pub starts-kept : (rows : List ℕ) (n : ℕ) (w w' : List ℕ) → take n w' ≡ take n w → StartsIn rows n w → StartsIn rows n w'
 starts-kept rows n w w' e s i h = word_kept w' w n e i h ∙ s i h

@@ -6,9 +6,7 @@
 use Rattle.std.specs.Prelude.{ℕ, zero, suc, ◌*◌, ◌<◌, ◌≤◌, ◌≡◌, cond, ◌↔◌, ◌⊎◌, List, [], ◌∷◌, ◌++◌, eqb, length, get_or, set, drop}
 use Rattle.lists.specs.Lists.{◌∈◌, ◌∉◌}
 use Rattle.words.specs.Part.{part}
-use Rattle.words.specs.Table.{ids, where_is}
-use Rattle.words.specs.declared.Found.{Found}
-use Rattle.words.specs.declared.Found.TheVariants.{At, Nothing}
+use Rattle.words.specs.Table.{ids, where_is, Found, At, Nothing}
 use Rattle.rules.specs.Tables.{held_width, start_of, held_segments}
 use Rattle.rules.specs.Ancestors.{Ancestor, references_read}
 use Rattle.walk.specs.declared.climb.Walked.{Walked}

@@ -6,12 +6,11 @@ ghost use Rattle.tabled.specs.Image.{Tabled, segment_in};
 ghost use Rattle.walk.specs.Met.{Held, meet, meet_all, met_in, marks_in, StartsIn, Climbed};
 
 use crate::{noting, starts};
-use words::Found;
 
 // Where the edges of each of the n rows begin, and no row met.
 pub fn prepare(rows: &[u64], n: usize, g: usize, w: &mut [u64])
     requires held_width_in_bounds { n * held_width ≤ length rows.now }
-    requires n_value { edges_from held_width rows.now n 0 ≡ g }
+    requires counts_match { edges_from held_width rows.now n 0 ≡ g }
     requires n_in_bounds { 2 * n ≤ length w.old }
     ensures { StartsIn rows.now n w.new × (marks_in n w.new ≡ replicate n 0) }
 {
@@ -20,7 +19,7 @@ pub fn prepare(rows: &[u64], n: usize, g: usize, w: &mut [u64])
 }
 
 // How many rows were met, how many ids without a row were read, and whether hints for the references stand in the work area.
-#[derive(Clone, Copy)]
+#[derive(Clone, Copy, PartialEq, Eq, Debug)]
 pub struct Tally {
     pub met: usize,
     pub bare: usize,
@@ -28,7 +27,7 @@ pub struct Tally {
 }
 
 // How many parent references a walk read, and how many of them to ids without a row.
-#[derive(Clone, Copy)]
+#[derive(Clone, Copy, PartialEq, Eq, Debug)]
 pub struct Walked {
     pub read: usize,
     pub bare: usize,
@@ -60,11 +59,11 @@ fn meet_parent(rows: &[u64], n: usize, p: u64, at: usize, t: Tally, w: &mut [u64
     let bare = t.bare;
     let noted = t.noted;
     match found {
-        Found::At(r) => {
+        Some(r) => {
             let met = add_row(n, r, t.met, w);
             Tally { met, bare, noted }
         }
-        Found::Nothing => {
+        None => {
             w[3 * n + 3 * bare] = p;
             Tally {
                 met: t.met,
@@ -93,11 +92,9 @@ fn meet_parents(rows: &[u64], n: usize, parents: &[u64], b: usize, t: Tally, w: 
     ensures { (met_in n result.met result.bare w.new ≡ meet_all (ids rows.now held_width n) parents.now (met_in n t.met t.bare w.old)) × (result.met ≤ n) × (take n w.new ≡ take n w.old) }
 {
     let mut l = t;
-    let mut j = 0;
-    while j < parents.len() {
+    for (j, &parent) in parents.iter().enumerate() {
         let at = hint_at(w, l.noted, b + j);
-        l = meet_parent(rows, n, parents[j], at, l, w);
-        j += 1;
+        l = meet_parent(rows, n, parent, at, l, w);
     }
     l
 }
@@ -107,7 +104,7 @@ fn parent_count(rows: &[u64], r: usize) -> usize
     requires { (r + 1) * held_width ≤ length rows.now }
     ensures { result ≡ parents_at rows.now (r * held_width) }
 {
-    rows[r * rules::HELD + 9] as usize
+    rows[r * rules::HELD + rules::PARENTS] as usize
 }
 
 // The parents of row r are read.

@@ -16,7 +16,7 @@ mod reached;
 pub mod starts;
 
 // How many parent references were read, and how many ancestors there are.
-#[derive(Clone, Copy)]
+#[derive(Clone, Copy, PartialEq, Eq, Debug)]
 pub struct Ancestry {
     pub read: usize,
     pub count: usize,

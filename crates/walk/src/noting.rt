@@ -19,15 +19,7 @@ fn are_due(rows: &[u64], n: usize, g: usize, read: usize) -> bool
     requires { (n * held_width ≤ length rows.now) × Ascends (ids rows.now held_width n) }
     ensures { result ≡ true → 256 ≤ n }
 {
-    if n < hints::FEW {
-        return false;
-    }
-    let first = rows[0];
-    let last = rows[(n - 1) * rules::HELD];
-    if last - first < n as u64 {
-        return false;
-    }
-    n / 16 + g / 16 < read
+    n >= hints::FEW && rows[(n - 1) * rules::HELD] - rows[0] >= n as u64 && n / 16 + g / 16 < read
 }
 
 // In v stand g ids, their places in the order of the ids, and room for g hints.
@@ -36,12 +28,10 @@ fn fill_hints(rows: &[u64], n: usize, g: usize, v: &mut [u64])
     requires by_index { (i : ℕ) → i < g → get_or v.old (g + i) 0 < g }
 {
     let mut at = 0;
-    let mut i = 0;
-    while i < g {
+    for i in 0..g {
         let p = v[g + i] as usize;
         at = hints::near::next_hint(rows, rules::HELD, n, v[p], at);
         v[2 * g + p] = at as u64;
-        i += 1;
     }
 }
 

@@ -11,10 +11,7 @@ fn is_new(w: &[u64], a: usize, i: usize) -> bool
     requires { a + 3 * i < length w.now }
     ensures { result ≡ is_new w.now a i }
 {
-    if i == 0 {
-        return true;
-    }
-    w[a + 3 * i] != w[a + 3 * (i - 1)]
+    i == 0 || w[a + 3 * i] != w[a + 3 * (i - 1)]
 }
 
 // The id of row i joins the k ids from word b on, if it is new.
@@ -37,10 +34,8 @@ fn keep_once(w: &mut [u64], a: usize, m: usize, b: usize) -> usize
     ensures { Kept (part w.new b result) (ids (drop a w.old) 3 m) × (result ≤ m) × (take b w.new ≡ take b w.old) }
 {
     let mut k = 0;
-    let mut i = 0;
-    while i < m {
+    for i in 0..m {
         k = keep_new(w, a, i, b, k);
-        i += 1;
     }
     k
 }

@@ -23,10 +23,8 @@ pub fn list_reached(rows: &[u64], n: usize, w: &mut [u64], b: usize) -> usize
     ensures { (part w.new b result ≡ reached_in rows.now n w.old) × (result ≤ n) × (take b w.new ≡ take b w.old) }
 {
     let mut k = 0;
-    let mut i = 0;
-    while i < n {
+    for i in 0..n {
         k = list_row(rows, n, i, w, b, k);
-        i += 1;
     }
     k
 }

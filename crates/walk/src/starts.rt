@@ -9,21 +9,19 @@ pub fn next_start(rows: &[u64], n: usize, g: usize, i: usize, at: usize) -> usiz
     ensures { result ≡ start_of held_width rows.now (i + 1) }
 {
     let row = i * rules::HELD;
-    at + rows[row + 9] as usize + rows[row + 10] as usize
+    at + rows[row + rules::PARENTS] as usize + rows[row + rules::CHILDREN] as usize
 }
 
 // The front of w says where the edges of each of the n rows begin.
 pub fn fill_starts(rows: &[u64], n: usize, g: usize, w: &mut [u64])
     requires held_width_in_bounds { n * held_width ≤ length rows.now }
-    requires n_value { edges_from held_width rows.now n 0 ≡ g }
+    requires counts_match { edges_from held_width rows.now n 0 ≡ g }
     requires n_in_bounds { n ≤ length w.old }
     ensures { StartsIn rows.now n w.new }
 {
     let mut at = 0;
-    let mut i = 0;
-    while i < n {
+    for i in 0..n {
         w[i] = at as u64;
         at = next_start(rows, n, g, i, at);
-        i += 1;
     }
 }

@@ -6,8 +6,6 @@ use mathlib.Core.Bool.{Bool, true, false}
 use mathlib.Core.List.{List}
 use lib.ListN.{length}
 use Rattle.answers.specs.declared.Refusal.{Refusal}
-use Rattle.answers.specs.declared.Judged.{Judged}
-use Rattle.answers.specs.declared.Judged.TheVariants as J
 use Rattle.answers.specs.declared.Updated.{Updated}
 use Rattle.answers.specs.declared.Updated.TheVariants as U
 use Rattle.types.specs.declared.limits.DagLimits.{DagLimits}
@@ -20,6 +18,7 @@ use Rattle.layout.specs.Lent.{tables_of, areas_of}
 use Rattle.replacing.specs.Lent.{changes_of, Replaced}
 use Rattle.envelope.specs.Parts.{session_holding, session_if}
 use Rattle.watch.specs.Owed.{Owed}
+use Rattle.answers.specs.Answer.{Judged, Accepted, Refused}
 
 module _ (s : Session) (u : Update) (limits : DagLimits) (rows edges places work held links order added removed splits merges : List ℕ) where
   abbrev t : Tables
@@ -63,16 +62,16 @@ module _ (s : Session) (u : Update) (limits : DagLimits) (rows edges places work
       }
 
   module _ (j : Judged) (said : j ≡ address_rule s u) where
-    went-refused : (r : Refusal) → j ≡ J.Refused r → went s u limits t (length work) a c ≡ refused_before r
+    went-refused : (r : Refusal) → j ≡ Refused r → went s u limits t (length work) a c ≡ refused_before r
     unfolding went
-    went-refused r told = let e : address_rule s u ≡ J.Refused r = sym said ∙ told in rw e refl
+    went-refused r told = let e : address_rule s u ≡ Refused r = sym said ∙ told in rw e refl
 
     -- 40, 41, 42
-    pub refused : (r : Refusal) → j ≡ J.Refused r → Owed s u limits t work a c (U.Refused r) s work held links order added removed splits merges
+    pub refused : (r : Refusal) → j ≡ Refused r → Owed s u limits t work a c (U.Refused r) s work held links order added removed splits merges
     refused r told = owed-by (refused_before r) (went-refused r told) _ _ _ _ _ _ _ _ _ _ refl refl refl refl refl refl refl refl refl refl
 
-    module _ (addressed : j ≡ J.Accepted) (b : Bool) (asked : b ≡ is_stale s u) where
-      heard : address_rule s u ≡ J.Accepted
+    module _ (addressed : j ≡ Accepted) (b : Bool) (asked : b ≡ is_stale s u) where
+      heard : address_rule s u ≡ Accepted
       heard = sym said ∙ addressed
 
       went-stale : b ≡ true → went s u limits t (length work) a c ≡ stale
@@ -91,8 +90,8 @@ module _ (s : Session) (u : Update) (limits : DagLimits) (rows edges places work
       holding = refl
 
       session-is : (k : Judged) → session_if (updated_of (judged k) u.epoch before (segments_in t)) (session_holding s u (length rows / row_width) (length edges)) s ≡ session_after (judged k) s u t
-      session-is J.Accepted = holding
-      session-is (J.Refused r) = refl
+      session-is Accepted = holding
+      session-is (Refused r) = refl
 
       -- 1 to 35, and acceptance
       pub new : b ≡ false → (h g : ℕ) → h ≡ held_count s → g ≡ held_edge_count s

@@ -8,7 +8,7 @@ ghost use Rattle.layout.specs.Lent.{tables_of, areas_of};
 ghost use Rattle.replacing.specs.Lent.{changes_of};
 ghost use Rattle.watch.specs.Owed.{Owed};
 
-use answers::{Judged, Updated};
+use answers::Updated;
 use types::limits::DagLimits;
 use types::records::{Outcome, Session, Update};
 
@@ -31,7 +31,7 @@ pub fn update_with_limits(
 ) -> Outcome
     ensures { Owed session update limits (tables_of rows.now edges.now places.now) work.old (areas_of held.old links.old order.old) (changes_of added.old removed.old splits.old merges.old) result.answer result.session work.new held.new links.new order.new added.new removed.new splits.new merges.new }
 {
-    if let Judged::Refused(r) = envelope::judge_address(session, update) {
+    if let Err(r) = envelope::judge_address(session, update) {
         return Outcome {
             session,
             answer: Updated::Refused(r),

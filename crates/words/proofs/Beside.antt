@@ -9,8 +9,7 @@ use mathlib.Core.List.{List}
 use Prim.Native.Nat.{ℕ, ◌+◌, ◌*◌, ◌<◌, ◌≤◌}
 use lib.ListN.{length, get_or}
 use Rattle.lists.proofs.Cases.{lt-or-le}
-use Rattle.words.specs.Table.{ids, where_is, Ascends}
-use Rattle.words.specs.declared.Found.TheVariants.{At, Nothing}
+use Rattle.words.specs.Table.{ids, where_is, Ascends, At, Nothing}
 use Rattle.words.proofs.TableLaws.{length_ids, ids_at, is_at, is-nothing}
 
 module _ (t : List ℕ) (w n x : ℕ) (asc : Ascends (ids t w n)) where

@@ -4,7 +4,7 @@
 --     at-is, nothing_is     what a caller learns
 --     hit, has-hit          a list has what a search finds
 --     unsearched, searched  a search that is made only where a test fails
---     row-found, row-missing     the same of the words of a table: what a caller of `find_row` cites
+--     row-found             the same of the words of a table: what a caller of `find_row` cites
 --     word_in, field_in     a word of a row is in the table
 --     asc-false, asc-is     the test of the order, and what it tells
 use mathlib.Core.Bool.{Bool, true, false, cond, ◌||◌, and-false}
@@ -20,9 +20,7 @@ use lib.Dec.{T, eqb, ltb}
 use borrow.Author.Tests.{eq-eqb, ne_eqb, le-ltb}
 use Rattle.lists.specs.Lists.{has}
 use Rattle.lists.proofs.Cases.{lt-or-le, eq-or-ne}
-use Rattle.words.specs.Table.{ids, where_from, where_is, Ascends, ascending}
-use Rattle.words.specs.declared.Found.{Found}
-use Rattle.words.specs.declared.Found.TheVariants.{At, Nothing}
+use Rattle.words.specs.Table.{ids, where_from, where_is, Ascends, ascending, Found, At, Nothing}
 
 pub length_ids : (t : List ℕ) (w n : ℕ) → length (ids t w n) ≡ n
 length_ids t w zero = refl
@@ -145,6 +143,3 @@ row-found t w n x r e =
     let a = at-is (ids t w n) x r e in
     let h : r < n = omega (arith, a.0, length_ids t w n) in
     (h, sym (ids_at t w n r h) ∙ a.1)
-
-pub row-missing : (t : List ℕ) (w n x : ℕ) → where_is (ids t w n) x ≡ Nothing → (r : ℕ) → r < n → get_or t (r * w) 0 ≡ x → ⊥
-row-missing t w n x e r h q = nothing_is (ids t w n) x e r (rw length_ids h) (ids_at t w n r h ∙ q)

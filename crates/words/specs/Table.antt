@@ -1,7 +1,5 @@
 -- A table of rows in a list of words: row r is the words r * width up to r * width + width, and its id is the first of them.
-use Rattle.std.specs.Prelude.{Bool, true, cond, ◌&&◌, List, [], ◌∷◌, ℕ, zero, suc, ◌<◌, length, get_or, drop, eqb, ltb}
-use Rattle.words.specs.declared.Found.{Found}
-use Rattle.words.specs.declared.Found.TheVariants.{At, Nothing}
+use Rattle.std.specs.Prelude.{Option, Some, None, Bool, true, cond, ◌&&◌, List, [], ◌∷◌, ℕ, zero, suc, ◌<◌, length, get_or, drop, eqb, ltb}
 
 -- the ids of the first `count` rows
 abbrev pub ids : List ℕ → ℕ → ℕ → List ℕ
@@ -17,6 +15,16 @@ abbrev pub ascending : List ℕ → Bool
 ascending [] = true
 ascending (x ∷ []) = true
 ascending (x ∷ y ∷ l) = ltb x y && ascending (y ∷ l)
+
+-- where a search ended: the row, if there is one
+abbrev pub Found : Type 0
+Found = Option ℕ
+
+pattern abbrev pub At : ℕ → Found
+At row = Some row
+
+pattern abbrev pub Nothing : Found
+Nothing = None
 
 -- the place of the first x in l, of which the first element has the place k
 abbrev pub where_from : ℕ → List ℕ → ℕ → Found

@@ -6,8 +6,8 @@ use Rattle.edges.proofs.judge_child.Goals as goal
 pub judge_child_at-requires : goal.judge_child_at-requires
 judge_child_at-requires c = search (rules, row_below)
 
-pub returns-in-At : goal.returns-in-At
-returns-in-At c = search child-at
+pub returns-in-Some : goal.returns-in-Some
+returns-in-Some c = search child-at
 
-pub returns-in-Nothing : goal.returns-in-Nothing
-returns-in-Nothing c = search child-nowhere
+pub returns-in-None : goal.returns-in-None
+returns-in-None c = search child-nowhere

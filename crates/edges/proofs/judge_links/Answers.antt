@@ -10,16 +10,19 @@ pub loop-i-init : goal.loop-i-init
 loop-i-init c =
     (search rules, refl, links-start _ _ _ _ _)
 
-pub judge_row-judged-requires : goal.judge_row-judged-requires
-judge_row-judged-requires c =
+pub judge_row-requires : goal.judge_row-requires
+judge_row-requires c =
     let below : c.loop-i.i < c.args.n = omega arith in
-    record { held_width_in_bounds = omega (arith, c.requires.tabled.size); i_lt_n = below; ascends = c.requires.tabled.up; held_width_in_bounds_2 = row_room c.args.table.now c.args.edges.now c.args.n c.requires.tabled c.loop-i.i c.loop-i.at c.loop-i.invariant.1 below; cpairs_len = (c.requires.tells.size, c.requires.tells.order); ppairs_len = (c.requires.tells_2.size, c.requires.tells_2.order) }
+    record { held_width_in_bounds = omega (arith, c.requires.tabled.size); i_lt_n = below; ascends = c.requires.tabled.up; edges_in_table = row_room c.args.table.now c.args.edges.now c.args.n c.requires.tabled c.loop-i.i c.loop-i.at c.loop-i.invariant.1 below; cpairs_len = (c.requires.tells.size, c.requires.tells.order); ppairs_len = (c.requires.tells_2.size, c.requires.tells_2.order) }
 
-pub returns-in_default : goal.returns-in_default
-returns-in_default c =
+pub returns-in_err-judge_row : goal.returns-in_err-judge_row
+returns-in_err-judge_row c =
     let below : c.loop-i.i < c.args.n = omega arith in
-    links-refused c.args.table.now c.args.edges.now c.args.cpairs.now c.args.ppairs.now c.args.n c.loop-i.i c.loop-i.at c.loop-i.invariant.2 below _ c.judge_row-judged.ensures _ c.in_default.is
-    ∙ links-told c.args.table.now c.args.edges.now c.args.n c.requires.tabled c.args.cpairs.now c.args.ppairs.now c.args.kc c.args.kp c.requires.tells c.requires.tells_2
+    grind (
+      arith,
+      links-refused c.args.table.now c.args.edges.now c.args.cpairs.now c.args.ppairs.now c.args.n c.loop-i.i c.loop-i.at c.loop-i.invariant.2 below _ c.judge_row.ensures _ c.in_err-judge_row.was
+          ∙ links-told c.args.table.now c.args.edges.now c.args.n c.requires.tabled c.args.cpairs.now c.args.ppairs.now c.args.kc c.args.kp c.requires.tells c.requires.tells_2,
+    )
 
 pub overflow_add-at-in-loop-i : goal.overflow_add-at-in-loop-i
 overflow_add-at-in-loop-i c =
@@ -32,7 +35,7 @@ overflow_add-at-in-loop-i-3 c =
 pub loop-i-preserved : goal.loop-i-preserved
 loop-i-preserved c =
     let below : c.loop-i.i < c.args.n = omega arith in
-    (omega arith, next_start c.args.table.now c.args.edges.now c.args.n c.requires.tabled c.loop-i.i c.loop-i.at c.loop-i.invariant.1 below, links-next c.args.table.now c.args.edges.now c.args.cpairs.now c.args.ppairs.now c.args.n c.loop-i.i c.loop-i.at c.loop-i.invariant.2 below _ c.judge_row-judged.ensures c.in-Accepted.is)
+    (omega arith, next_start c.args.table.now c.args.edges.now c.args.n c.requires.tabled c.loop-i.i c.loop-i.at c.loop-i.invariant.1 below, links-next c.args.table.now c.args.edges.now c.args.cpairs.now c.args.ppairs.now c.args.n c.loop-i.i c.loop-i.at c.loop-i.invariant.2 below _ c.judge_row.ensures c.in_ok-judge_row.was)
 
 pub returns : goal.returns
 returns c =

@@ -6,8 +6,8 @@ use Rattle.edges.proofs.judge_parent.Goals as goal
 pub judge_parent_at-requires : goal.judge_parent_at-requires
 judge_parent_at-requires c = search (rules, row_below)
 
-pub returns-in-At : goal.returns-in-At
-returns-in-At c = search parent-at
+pub returns-in-Some : goal.returns-in-Some
+returns-in-Some c = search parent-at
 
-pub returns-in-Nothing : goal.returns-in-Nothing
-returns-in-Nothing c = search parent-nowhere
+pub returns-in-None : goal.returns-in-None
+returns-in-None c = search parent-nowhere

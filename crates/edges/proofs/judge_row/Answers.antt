@@ -1,18 +1,8 @@
 -- `edges::judge_row` meets its contract: each need is arithmetic, a law that is imported, or what a callee promised.
-use Rattle.answers.proofs.Judging.{chain}
-use Rattle.edges.specs.Links.{row_links}
 use Rattle.edges.proofs.judge_row.Goals as goal
 
-pub judge_list-judged-requires : goal.judge_list-judged-requires
-judge_list-judged-requires c = record { held_width_in_bounds = c.requires.held_width_in_bounds; i_lt_n = c.requires.i_lt_n; ascends = c.requires.ascends; pairs_len = c.requires.cpairs_len.0; ordered = c.requires.cpairs_len.1 }
-
-pub returns-in_default : goal.returns-in_default
-unfolding row_links
-returns-in_default c = search chain
-
 pub judge_list-requires : goal.judge_list-requires
-judge_list-requires c = record { held_width_in_bounds = c.requires.held_width_in_bounds; i_lt_n = c.requires.i_lt_n; ascends = c.requires.ascends; pairs_len = c.requires.ppairs_len.0; ordered = c.requires.ppairs_len.1 }
+judge_list-requires c = record { held_width_in_bounds = c.requires.held_width_in_bounds; i_lt_n = c.requires.i_lt_n; ascends = c.requires.ascends; pairs_len = c.requires.cpairs_len.0; ordered = c.requires.cpairs_len.1 }
 
-pub returns : goal.returns
-unfolding row_links
-returns c = search chain
+pub judge_list-requires-2 : goal.judge_list-requires-2
+judge_list-requires-2 c = record { held_width_in_bounds = c.requires.held_width_in_bounds; i_lt_n = c.requires.i_lt_n; ascends = c.requires.ascends; pairs_len = c.requires.ppairs_len.0; ordered = c.requires.ppairs_len.1 }

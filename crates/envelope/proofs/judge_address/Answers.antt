@@ -5,7 +5,7 @@ use Rattle.envelope.proofs.judge_address.Goals as goal
 
 pub returns-then-update-session : goal.returns-then-update-session
 unfolding address_rule
-returns-then-update-session c = c.refuse.ensures ∙ rw (ne_eqb _ _ c.if-update-session.true) refl
+returns-then-update-session c = rw (ne_eqb _ _ c.if-update-session.true) refl
 
 pub returns : goal.returns
 unfolding address_rule

@@ -8,8 +8,8 @@ returns-then-update c = rw c.if-update.true refl
 
 pub returns-then-update-2 : goal.returns-then-update-2
 unfolding body_rule
-returns-then-update-2 c = c.refuse.ensures ∙ rw (c.if-update.false, c.if-update-2.true, c.text_or_none.ensures) refl
+returns-then-update-2 c = rw (c.if-update.false, c.if-update-2.true, c.text_or_none.ensures) refl
 
 pub returns : goal.returns
 unfolding body_rule
-returns c = c.refuse-2.ensures ∙ rw (c.if-update.false, c.if-update-2.false) refl
+returns c = rw (c.if-update.false, c.if-update-2.false) refl

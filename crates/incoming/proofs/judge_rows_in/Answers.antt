@@ -20,7 +20,7 @@ use Rattle.incoming.proofs.judge_rows_in.Goals as goal
 -- part-judge-rows-end c = search rules
 
 pub judge_rows-requires : goal.judge_rows-requires
-judge_rows-requires c = record { row_width_in_bounds = search rules; n_value = search rules; twins = search rows-flagged }
+judge_rows-requires c = record { row_width_in_bounds = search rules; counts_match = search rules; twins = search rows-flagged }
 
 pub returns : goal.returns
 returns c = record { value = search rules; n_after = search index_stays; b_unchanged = search between_stays }

@@ -15,7 +15,8 @@ loop-i-preserved c = (
   search rules,
   search rules,
   search place-next,
-  rows_next c.args.table.now c.loop-i.index c.args.index.now c.args.n c.loop-i.i (omega arith) c.loop-i.invariant.3 (omega arith) c.put3.new.a c.loop-i.at c.loop-i.invariant.2 c.put3.ensures,
+  rows_next c.args.table.now c.loop-i.index c.args.index.now c.args.n c.loop-i.i (omega arith) c.loop-i.invariant.3 (omega arith)
+      c.put3.new.a c.loop-i.at c.loop-i.invariant.2 c.put3.ensures,
 )
 
 pub returns : goal.returns

@@ -1,6 +1,6 @@
 -- `index_places` meets its contract: the keys, and then their sort.
-use Rattle.indexes.proofs.Fill.{place-index-is}
+use Rattle.indexes.proofs.Fill.{place_index_is}
 use Rattle.indexes.proofs.index_places.Goals as goal
 
 pub returns : goal.returns
-returns c = search place-index-is
+returns c = search place_index_is

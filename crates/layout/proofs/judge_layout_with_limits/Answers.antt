@@ -1,4 +1,5 @@
 -- `layout::judge_layout_with_limits` meets its contract: each need is arithmetic, a law that is imported, or what a callee promised.
+use mathlib.Core.Path.{refl}
 use Prim.Native.Nat.{◌/◌}
 use lib.ListN.{length}
 use Rattle.rules.specs.Tables.{row_width, place_width}
@@ -8,11 +9,11 @@ use Rattle.layout.proofs.judge_layout_with_limits.Goals as goal
 
 pub returns-then-is_bad_layout : goal.returns-then-is_bad_layout
 returns-then-is_bad_layout c =
-    bad c.args.epoch c.args.size c.args.limits c.args.rows.now c.args.edges.now c.args.places.now c.args.work.now c.args.held.now c.args.links.now c.args.order.now _ c.is_bad_layout.ensures _ c.if-is_bad_layout.true c.refuse.ensures
+    bad c.args.epoch c.args.size c.args.limits c.args.rows.now c.args.edges.now c.args.places.now c.args.work.now c.args.held.now c.args.links.now c.args.order.now _ c.is_bad_layout.ensures _ c.if-is_bad_layout.true refl
 
 pub returns-then-lacks_room_to_judge : goal.returns-then-lacks_room_to_judge
 returns-then-lacks_room_to_judge c =
-    short c.args.epoch c.args.size c.args.limits c.args.rows.now c.args.edges.now c.args.places.now c.args.work.now c.args.held.now c.args.links.now c.args.order.now _ c.is_bad_layout.ensures c.if-is_bad_layout.false _ c.lacks_room_to_judge.ensures _ c.if-lacks_room_to_judge.true c.refuse-then-lacks_room_to_judge.ensures
+    short c.args.epoch c.args.size c.args.limits c.args.rows.now c.args.edges.now c.args.places.now c.args.work.now c.args.held.now c.args.links.now c.args.order.now _ c.is_bad_layout.ensures c.if-is_bad_layout.false _ c.lacks_room_to_judge.ensures _ c.if-lacks_room_to_judge.true refl
 
 pub judge_in-judged-requires : goal.judge_in-judged-requires
 judge_in-judged-requires c =

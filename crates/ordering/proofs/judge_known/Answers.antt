@@ -13,8 +13,8 @@ returns-then-is_bad_held c = search chain
 pub find_row-found-requires : goal.find_row-found-requires
 find_row-found-requires c = search (rules, held-fit, held-ascend)
 
-pub returns-in-At : goal.returns-in-At
-returns-in-At c = search rule-known
+pub returns-in-Some : goal.returns-in-Some
+returns-in-Some c = search rule-known
 
-pub returns-in-Nothing : goal.returns-in-Nothing
-returns-in-Nothing c = search rule-unknown
+pub returns-in-None : goal.returns-in-None
+returns-in-None c = search rule-unknown

@@ -6,7 +6,7 @@ use Rattle.replacing.proofs.Storing.{order-fits, stored}
 use Rattle.replacing.proofs.accept.Goals as goal
 
 pub write_delta-d-requires : goal.write_delta-d-requires
-write_delta-d-requires c = record { image = c.requires.storable.image; e_bound = omega arith; e_in_bounds = omega (arith, c.requires.storable.room); e_bound_2 = c.requires.storable.widths; rows = c.requires.room.old; n_in_bounds = c.requires.room.added; h_in_bounds = c.requires.room.removed; e_in_bounds_2 = (c.requires.room.splits, c.requires.room.merges) }
+write_delta-d-requires c = record { image = c.requires.storable.image; e_bound = omega arith; e_in_bounds = omega (arith, c.requires.storable.room); widths_fit = c.requires.storable.widths; rows = c.requires.room.old; n_in_bounds = c.requires.room.added; h_in_bounds = c.requires.room.removed; e_in_bounds_2 = (c.requires.room.splits, c.requires.room.merges) }
 
 pub store-requires : goal.store-requires
 store-requires c = record { n_in_bounds = order-fits c.args.w.now c.write_delta-d.new.w c.args.n c.args.e c.args.epoch c.args.h (areas_of c.args.held.now c.args.links.now c.args.order.now) (changes_of c.args.added.now c.args.removed.now c.args.splits.now c.args.merges.now) c.write_delta-d.auto.w c.write_delta-d.ensures.w_unchanged c.requires.storable.room; held_width_in_bounds = c.requires.room.rows; e_in_bounds = c.requires.room.edges; n_in_bounds_2 = c.requires.room.order }

@@ -5,16 +5,49 @@ use lib.ListN.{length}
 use Rattle.walk.proofs.Climbing.{merge-asks, all_listed}
 use Rattle.walk.proofs.ancestors_of.Goals as goal
 
-pub climb-walked-requires : goal.climb-walked-requires
-climb-walked-requires c = record { tabled = (c.requires.0, c.requires.1); n_in_bounds = (omega (arith, c.requires.2, c.prepare.auto.w), c.prepare.ensures.0, c.prepare.ensures.1) }
-
 pub merge-requires : goal.merge-requires
-merge-requires c = record { m_bound = (omega (arith, c.list_reached-met.ensures.1), omega (arith, c.list_once-bare.ensures.1, c.climb-walked.ensures.fits), omega (arith, c.requires.2, c.list_reached-met.ensures.1, c.list_once-bare.ensures.1, c.climb-walked.ensures.fits, c.prepare.auto.w, c.climb-walked.auto.w, c.list_once-bare.auto.w, c.list_reached-met.auto.w)); ascending = merge-asks c.args.rows.now c.args.edges.now c.args.n c.args.row.0 c.requires.0 c.climb-walked.new.w c.climb-walked.result c.climb-walked.ensures (3 * c.args.n + 3 * length c.args.edges.now) (3 * c.args.n + 3 * length c.args.edges.now + length c.args.edges.now) c.list_once-bare.result c.list_reached-met.result c.list_once-bare.new.w c.list_reached-met.new.w (omega arith) (omega (arith, c.list_once-bare.ensures.1, c.climb-walked.ensures.fits)) c.list_once-bare.ensures.0 c.list_once-bare.ensures.2 c.list_reached-met.ensures.0 c.list_reached-met.ensures.2 }
-
-pub overflow_add-result : goal.overflow_add-result
-overflow_add-result c =
-    omega (arith, c.requires.2, c.list_reached-met.ensures.1, c.list_once-bare.ensures.1, c.climb-walked.ensures.fits)
+merge-requires c = record {
+  m_bound = (
+    omega (arith, c.list_reached-met.ensures.1),
+    omega (arith, c.list_once-bare.ensures.1, c.climb-walked.ensures.fits),
+    omega (
+      arith,
+      c.requires.2,
+      c.list_reached-met.ensures.1,
+      c.list_once-bare.ensures.1,
+      c.climb-walked.ensures.fits,
+      c.prepare.auto.w,
+      c.climb-walked.auto.w,
+      c.list_once-bare.auto.w,
+      c.list_reached-met.auto.w,
+    ),
+  );
+  ascending =
+      merge-asks c.args.rows.now c.args.edges.now c.args.n c.args.row.0 c.requires.0 c.climb-walked.new.w c.climb-walked.result
+      c.climb-walked.ensures (3 * c.args.n + 3 * length c.args.edges.now)
+      (3 * c.args.n + 3 * length c.args.edges.now + length c.args.edges.now) c.list_once-bare.result c.list_reached-met.result
+      c.list_once-bare.new.w c.list_reached-met.new.w (omega arith) (omega (arith, c.list_once-bare.ensures.1, c.climb-walked.ensures.fits))
+      c.list_once-bare.ensures.0 c.list_once-bare.ensures.2 c.list_reached-met.ensures.0 c.list_reached-met.ensures.2;
+}
 
 pub returns : goal.returns
 returns c =
-    all_listed c.args.rows.now c.args.edges.now c.args.n c.args.row.0 c.requires.0 c.climb-walked.new.w c.climb-walked.result c.climb-walked.ensures (3 * c.args.n + 3 * length c.args.edges.now) (3 * c.args.n + 3 * length c.args.edges.now + length c.args.edges.now) c.list_once-bare.result c.list_reached-met.result c.list_once-bare.new.w c.list_reached-met.new.w (omega arith) (omega (arith, c.list_once-bare.ensures.1, c.climb-walked.ensures.fits)) c.list_once-bare.ensures.0 c.list_once-bare.ensures.2 c.list_reached-met.ensures.0 c.list_reached-met.ensures.2 (3 * c.args.n + 3 * length c.args.edges.now + length c.args.edges.now + c.args.n) c.merge.new.w (omega arith) (omega (arith, c.requires.2, c.list_reached-met.ensures.1, c.list_once-bare.ensures.1, c.climb-walked.ensures.fits, c.prepare.auto.w, c.climb-walked.auto.w, c.list_once-bare.auto.w, c.list_reached-met.auto.w, c.merge.auto.w)) c.merge.ensures
+    all_listed c.args.rows.now c.args.edges.now c.args.n c.args.row.0 c.requires.0 c.climb-walked.new.w c.climb-walked.result
+    c.climb-walked.ensures (3 * c.args.n + 3 * length c.args.edges.now)
+    (3 * c.args.n + 3 * length c.args.edges.now + length c.args.edges.now) c.list_once-bare.result c.list_reached-met.result
+    c.list_once-bare.new.w c.list_reached-met.new.w (omega arith) (omega (arith, c.list_once-bare.ensures.1, c.climb-walked.ensures.fits))
+    c.list_once-bare.ensures.0 c.list_once-bare.ensures.2 c.list_reached-met.ensures.0 c.list_reached-met.ensures.2
+    (3 * c.args.n + 3 * length c.args.edges.now + length c.args.edges.now + c.args.n) c.merge.new.w (omega arith)
+    (omega (
+      arith,
+      c.requires.2,
+      c.list_reached-met.ensures.1,
+      c.list_once-bare.ensures.1,
+      c.climb-walked.ensures.fits,
+      c.prepare.auto.w,
+      c.climb-walked.auto.w,
+      c.list_once-bare.auto.w,
+      c.list_reached-met.auto.w,
+      c.merge.auto.w,
+    ))
+    c.merge.ensures

@@ -2,9 +2,9 @@
 use Rattle.watch.proofs.Whole.{refused, old, new}
 use Rattle.watch.proofs.update_with_limits.Goals as goal
 
-pub returns-in-Refused : goal.returns-in-Refused
-returns-in-Refused c =
-    refused c.args.session c.args.update c.args.limits c.args.rows.now c.args.edges.now c.args.places.now c.args.work.now c.args.held.now c.args.links.now c.args.order.now c.args.added.now c.args.removed.now c.args.splits.now c.args.merges.now _ c.judge_address.ensures _ c.in-Refused.is
+pub returns-in-Err : goal.returns-in-Err
+returns-in-Err c =
+    refused c.args.session c.args.update c.args.limits c.args.rows.now c.args.edges.now c.args.places.now c.args.work.now c.args.held.now c.args.links.now c.args.order.now c.args.added.now c.args.removed.now c.args.splits.now c.args.merges.now _ c.judge_address.ensures _ c.in-Err.is
 
 pub returns-then-is_stale : goal.returns-then-is_stale
 returns-then-is_stale c =

@@ -6,8 +6,7 @@ use mathlib.Core.Logic.{◌⊎◌, ⊎_elim}
 use mathlib.Core.List.{List}
 use Prim.Native.Nat.{ℕ, ◌<◌, zero-le}
 use lib.ListN.{get_or}
-use Rattle.words.specs.Table.{ids, where_is, Ascends}
-use Rattle.words.specs.declared.Found.TheVariants.{Nothing}
+use Rattle.words.specs.Table.{ids, where_is, Ascends, Nothing}
 use Rattle.words.proofs.TableLaws.{ids_at, is-nothing, word_in}
 use Rattle.words.proofs.find_row.Goals as goal
 
@@ -20,10 +19,6 @@ zero-or-more j = eq-or-lt_of_le zero-le
 below : (t : List ℕ) (w n x : ℕ) → Ascends (ids t w n) → 0 < n → x < get_or t 0 0 → Nothing ≡ where_is (ids t w n) x
 below t w n x asc h q = sym (is-nothing (ids t w n) x (λ j p e. ⊎_elim (λ (z : 0 ≡ j). omega (arith, first-at t w n h, rw (← z) at e))
     (λ (l : 0 < j). omega (arith, first-at t w n h, asc 0 j l p)) (zero-or-more j)))
-
-pub bounds-rows-0 : goal.bounds-rows-0
-bounds-rows-0 c =
-    rw zero-mul at (word_in 0 c.args.count c.args.width _ (omega arith) c.requires.width_nonzero c.requires.width_in_bounds)
 
 pub returns-then-id-first : goal.returns-then-id-first
 returns-then-id-first c =

@@ -1,16 +1,15 @@
 -- `words::look` meets its contract: each need is arithmetic, a law that is imported, or what a callee promised.
 -- those before lo are below x, those from hi on above it
 use native.Mathlib.Omega.{arith}
-use mathlib.Core.Path.{◌≡◌, sym}
+use mathlib.Core.Path.{◌≡◌}
 use mathlib.Core.List.{List}
 use Prim.Native.Nat.{ℕ, ◌+◌, ◌*◌, ◌≤◌, ◌<◌}
 use native.Mathlib.Nat.{le_trans, lt_of_lt_of_le}
 use native.Mathlib.Numerals.{lt_of_le_of_ne}
-use Rattle.words.specs.Table.{ids, where_is, Ascends}
-use Rattle.words.specs.declared.Found.TheVariants.{At, Nothing}
+use Rattle.words.specs.Table.{ids, where_is, Ascends, At, Nothing}
 use Rattle.words.proofs.TableLaws.{word_in}
 use Rattle.words.proofs.Beside.{stands, past, short-of, between}
-use lib.ListN.{length, get_or}
+use lib.ListN.{get_or}
 use Rattle.words.proofs.look.Invariants.{Bracket}
 use Rattle.words.proofs.look.Goals as goal
 
@@ -40,51 +39,24 @@ module _ (t : List ℕ) (w n x lo hi : ℕ) (asc : Ascends (ids t w n)) (b : Bra
 miss : (t : List ℕ) (w n x lo hi : ℕ) → Bracket (ids t w n) x n lo hi → hi ≤ lo → Nothing ≡ where_is (ids t w n) x
 miss t w n x lo hi b h = between t w n x lo b.below (λ k q. b.above k (le_trans h q))
 
--- in the loop's body the row that is looked at lies between lo and hi, so its id is in the table
-here : (t : List ℕ) (w n hi at : ℕ) → at < hi → hi ≤ n → (0 < w) × (n * w ≤ length t) → at * w < length t
-here t w n hi at h k r = word_in _ n _ _ (omega (arith, h, k)) (omega arith) r.1
-
-pub overflow_mul-x : goal.overflow_mul-x
-overflow_mul-x c = omega (arith, here c.args.rows.now c.args.width c.args.count c.loop-lo.hi c.loop-lo.at (c.loop-lo.invariant.1 c.loop-lo-test.true).1 c.loop-lo.invariant.0.hi-le c.requires.width_nonzero)
-
-pub offset_bounds-rows-at : goal.offset_bounds-rows-at
-offset_bounds-rows-at c = omega (arith, here c.args.rows.now c.args.width c.args.count c.loop-lo.hi c.loop-lo.at (c.loop-lo.invariant.1 c.loop-lo-test.true).1 c.loop-lo.invariant.0.hi-le c.requires.width_nonzero)
-
-pub bounds-rows-at : goal.bounds-rows-at
-bounds-rows-at c = here c.args.rows.now c.args.width c.args.count c.loop-lo.hi c.loop-lo.at (c.loop-lo.invariant.1 c.loop-lo-test.true).1 c.loop-lo.invariant.0.hi-le c.requires.width_nonzero
-
 pub returns-then-x-id : goal.returns-then-x-id
 returns-then-x-id c =
-    hit c.args.rows.now c.args.width c.args.count c.args.id _ _ c.requires.ascends c.loop-lo.invariant.0 _ (c.loop-lo.invariant.1 c.loop-lo-test.true).0 (c.loop-lo.invariant.1 c.loop-lo-test.true).1 c.if-x-id.true
-
-pub overflow_add-lo : goal.overflow_add-lo
-overflow_add-lo c = omega (arith, (c.loop-lo.invariant.1 c.loop-lo-test.true).1)
-
-pub further-at-requires : goal.further-at-requires
-further-at-requires c = (omega (arith, (c.loop-lo.invariant.1 c.loop-lo-test.true).1), omega arith)
-
-pub loop-lo-smaller-then-x-id-2 : goal.loop-lo-smaller-then-x-id-2
-loop-lo-smaller-then-x-id-2 c = omega (arith, (c.loop-lo.invariant.1 c.loop-lo-test.true).0, (c.loop-lo.invariant.1 c.loop-lo-test.true).1)
+    let inside = c.loop-lo.invariant.1 c.loop-lo-test.true in
+    hit c.args.rows.now c.args.width _ _ _ _ c.requires.ascends c.loop-lo.invariant.0 _ inside.0 inside.1 c.if-x-id.true
 
 pub loop-lo-preserved-then-x-id-2 : goal.loop-lo-preserved-then-x-id-2
-loop-lo-preserved-then-x-id-2 c = (
-  up c.args.rows.now c.args.width c.args.count c.args.id _ _ c.requires.ascends c.loop-lo.invariant.0 _ (c.loop-lo.invariant.1 c.loop-lo-test.true).0 (c.loop-lo.invariant.1 c.loop-lo-test.true).1 c.if-x-id-2.true,
-  λ h. (c.further-at.ensures.0, c.further-at.ensures.2 h),
-)
-
-pub nearer-at-requires : goal.nearer-at-requires
-nearer-at-requires c = ((c.loop-lo.invariant.1 c.loop-lo-test.true).0, omega (arith, lt_of_le_of_ne c.if-x-id-2.false (λ e. c.if-x-id.false (sym e))))
-
-pub loop-lo-smaller : goal.loop-lo-smaller
-loop-lo-smaller c = omega (arith, (c.loop-lo.invariant.1 c.loop-lo-test.true).0, (c.loop-lo.invariant.1 c.loop-lo-test.true).1)
+loop-lo-preserved-then-x-id-2 c =
+    let inside = c.loop-lo.invariant.1 c.loop-lo-test.true in (
+      up c.args.rows.now c.args.width _ _ _ _ c.requires.ascends c.loop-lo.invariant.0 _ inside.0 inside.1 c.if-x-id-2.true,
+      λ h. (c.further-at.ensures.0, c.further-at.ensures.2 h),
+    )
 
 pub loop-lo-preserved : goal.loop-lo-preserved
-loop-lo-preserved c = (
-  down c.args.rows.now c.args.width c.args.count c.args.id _ _ c.requires.ascends c.loop-lo.invariant.0 _ (c.loop-lo.invariant.1 c.loop-lo-test.true).0 (c.loop-lo.invariant.1 c.loop-lo-test.true).1
-      (lt_of_le_of_ne c.if-x-id-2.false (λ e. c.if-x-id.false (sym e))),
-  λ h. (c.nearer-at.ensures.0, c.nearer-at.ensures.2 h),
-)
+loop-lo-preserved c =
+    let inside = c.loop-lo.invariant.1 c.loop-lo-test.true in (
+      down c.args.rows.now c.args.width _ _ _ _ c.requires.ascends c.loop-lo.invariant.0 _ inside.0 inside.1 (omega arith),
+      λ h. (c.nearer-at.ensures.0, c.nearer-at.ensures.2 h),
+    )
 
 pub returns : goal.returns
-returns c =
-    miss c.args.rows.now c.args.width c.args.count c.args.id _ _ c.loop-lo.invariant.0 c.loop-lo-test.false
+returns c = miss c.args.rows.now c.args.width _ _ _ _ c.loop-lo.invariant.0 c.loop-lo-test.false

@@ -1,8 +1,8 @@
 use Rattle.crossing.proofs.Words.{accepted-is, refused-is}
 use Rattle.crossing.proofs.answer.refusal_of.Goals as goal
 
-pub returns-in-Accepted : goal.returns-in-Accepted
-returns-in-Accepted c = search accepted-is
+pub returns-in-Ok : goal.returns-in-Ok
+returns-in-Ok c = search accepted-is
 
-pub returns-in-Refused : goal.returns-in-Refused
-returns-in-Refused c = search refused-is
+pub returns-in-Err : goal.returns-in-Err
+returns-in-Err c = search refused-is

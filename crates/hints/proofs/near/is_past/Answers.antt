@@ -1,17 +1,9 @@
 -- `is_past` meets its contract: the last of the rows before tells of all, since ids ascend (`past`).
 use Rattle.std.proofs.Common.{◌-◌, arith, ltb-true}
-use Rattle.words.proofs.TableLaws.{word_in}
 use Rattle.words.proofs.Beside.{past}
 use Rattle.hints.proofs.near.is_past.Goals as goal
 
-pub overflow_mul-result : goal.overflow_mul-result
-overflow_mul-result c = omega (arith, word_in (c.args.at - 1) c.args.count c.args.width _ (omega arith) c.requires.0 c.requires.1)
-
-pub offset_bounds-rows-at : goal.offset_bounds-rows-at
-offset_bounds-rows-at c = omega (arith, word_in (c.args.at - 1) c.args.count c.args.width _ (omega arith) c.requires.0 c.requires.1)
-
-pub bounds-rows-at : goal.bounds-rows-at
-bounds-rows-at c = word_in (c.args.at - 1) c.args.count c.args.width _ (omega arith) c.requires.0 c.requires.1
-
-pub returns : goal.returns
-returns c = λ e k q. past c.args.rows.now c.args.width c.args.count c.args.id c.requires.2 (c.args.at - 1) (omega arith) (ltb-true _ _ e) k (omega arith)
+pub returns-else-at-eq0 : goal.returns-else-at-eq0
+returns-else-at-eq0 c =
+    λ e k q.
+    past c.args.rows.now c.args.width c.args.count c.args.id c.requires.2 (c.args.at - 1) (omega arith) (ltb-true _ _ e) k (omega arith)

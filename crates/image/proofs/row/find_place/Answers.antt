@@ -20,17 +20,17 @@ overflow_mul-result c = search fits-key
 pub overflow_add-result : goal.overflow_add-result
 overflow_add-result c = search fits-place
 
-pub overflow_add-result-in-At : goal.overflow_add-result-in-At
-overflow_add-result-in-At c = search (rules, fits_word)
+pub overflow_add-result-in-Some : goal.overflow_add-result-in-Some
+overflow_add-result-in-Some c = search (rules, fits_word)
 
-pub offset_bounds-w-b-in-At : goal.offset_bounds-w-b-in-At
-offset_bounds-w-b-in-At c = search (rules, found_word)
+pub offset_bounds-w-b-in-Some : goal.offset_bounds-w-b-in-Some
+offset_bounds-w-b-in-Some c = search (rules, found_word)
 
 pub bounds-w-b : goal.bounds-w-b
 bounds-w-b c = search (rules, found_word)
 
-pub returns-in-At : goal.returns-in-At
-returns-in-At c = search found-told
+pub returns-in-Some : goal.returns-in-Some
+returns-in-Some c = search found-told
 
-pub returns-in-Nothing : goal.returns-in-Nothing
-returns-in-Nothing c = search nothing-told
+pub returns-in-None : goal.returns-in-None
+returns-in-None c = search nothing-told

@@ -9,8 +9,8 @@ overflow_mul-k c = search k-fits
 pub copy_site-requires : goal.copy_site-requires
 copy_site-requires c = record { at_in_bounds = search rules; place_width_in_bounds = search k-room }
 
-pub returns-in-At : goal.returns-in-At
-returns-in-At c = search put-found
+pub returns-in-Some : goal.returns-in-Some
+returns-in-Some c = search put-found
 
-pub returns-in-Nothing : goal.returns-in-Nothing
-returns-in-Nothing c = search put-nothing
+pub returns-in-None : goal.returns-in-None
+returns-in-None c = search put-nothing

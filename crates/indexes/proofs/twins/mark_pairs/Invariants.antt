@@ -1,5 +1,5 @@
 -- `mark_pairs` meets its contract: after p turns the flags are those that the first p rows of the index mark, and nothing else has changed.
-use Prim.Native.Nat.{◌≤◌, ◌*◌, ◌-◌}
+use Prim.Native.Nat.{◌≤◌, ◌*◌}
 use mathlib.Core.Path.{◌≡◌}
 use lib.ListN.{length, take}
 use Rattle.words.specs.Part.{part, put}
@@ -8,7 +8,7 @@ use Rattle.indexes.specs.Marks.{paired}
 use Rattle.indexes.proofs.twins.mark_pairs.Given as goal
 
 abbrev pub invariant-loop-p : goal.invariant-loop-p
-invariant-loop-p l = (1 ≤ l.p) × (length l.w ≡ length l.initial.w) × (l.w ≡ put l.initial.w l.to l.n (paired (take l.p (rows (part l.initial.w l.at (3 * l.n)))) (part l.initial.w l.to l.n)))
-
-abbrev pub decreases-loop-p : goal.decreases-loop-p
-decreases-loop-p l = l.n - l.p
+invariant-loop-p l =
+    (1 ≤ l.p)
+    × (length l.w ≡ length l.initial.w)
+    × (l.w ≡ put l.initial.w l.to l.n (paired (take l.p (rows (part l.initial.w l.at (3 * l.n)))) (part l.initial.w l.to l.n)))

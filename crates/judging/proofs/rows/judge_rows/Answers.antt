@@ -2,6 +2,7 @@
 use Rattle.judging.proofs.Before.{flag-in}
 use Rattle.judging.proofs.Walk.{room-start, room_next, room, room_fits, room-fits-2, parents-fit, children-fit, rows_start, rows_end, rows-twin, rows-refused, rows_next}
 use borrow.Author.Rules.{rules}
+use native.Mathlib.Omega.{arith}
 use Rattle.judging.proofs.rows.judge_rows.Goals as goal
 
 pub loop-i-init : goal.loop-i-init
@@ -19,11 +20,15 @@ overflow_add-parents c = search parents-fit
 pub overflow_add-children : goal.overflow_add-children
 overflow_add-children c = search children-fit
 
-pub judge_counted-judged-requires : goal.judge_counted-judged-requires
-judge_counted-judged-requires c = search (rules, room)
+pub judge_counted-requires : goal.judge_counted-requires
+judge_counted-requires c = search (rules, room)
 
-pub returns-in_default : goal.returns-in_default
-returns-in_default c = search (rows-refused, room)
+pub returns-in_err-judge_counted : goal.returns-in_err-judge_counted
+returns-in_err-judge_counted c = grind (
+  arith,
+  rows-refused _ _ _ _ _ _ _ _ _ _ c.loop-i.invariant.2 c.loop-i-test.true (room _ _ _ _ _ c.loop-i.invariant.0 c.loop-i-test.true) _ c.requires.twins
+      c.if-flags-i-ne0.false _ c.judge_counted.ensures _ c.in_err-judge_counted.was,
+)
 
 pub overflow_add-at : goal.overflow_add-at
 overflow_add-at c = search room_fits
@@ -36,7 +41,7 @@ loop-i-preserved c = (
   search room_next,
   search rules,
   rows_next _ _ _ _ _ _ _ _ _ _ c.loop-i.invariant.2 c.loop-i-test.true (room _ _ _ _ _ c.loop-i.invariant.0 c.loop-i-test.true) _ c.requires.twins c.if-flags-i-ne0.false _
-      c.judge_counted-judged.ensures c.in-Accepted.is,
+      c.judge_counted.ensures c.in_ok-judge_counted.was,
 )
 
 pub returns : goal.returns

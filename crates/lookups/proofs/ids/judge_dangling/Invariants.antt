@@ -8,6 +8,3 @@ use Rattle.lookups.proofs.ids.judge_dangling.Given as goal
 
 abbrev pub invariant-loop-p : goal.invariant-loop-p
 invariant-loop-p l = dangling_from (ids l.index 3 l.n) (ids l.pindex 3 l.m) ≡ dangling_from (ids l.index 3 l.n) (drop l.p (ids l.pindex 3 l.m))
-
-abbrev pub decreases-loop-p : goal.decreases-loop-p
-decreases-loop-p l = l.m - l.p

@@ -2,8 +2,8 @@
 use Rattle.lookups.proofs.Dangling.{lacks-hit, lacks-none}
 use Rattle.lookups.proofs.ids.lacks_id.Goals as goal
 
-pub returns-in-At : goal.returns-in-At
-returns-in-At c = search lacks-hit
+pub returns-in-Some : goal.returns-in-Some
+returns-in-Some c = search lacks-hit
 
-pub returns-in-Nothing : goal.returns-in-Nothing
-returns-in-Nothing c = search lacks-none
+pub returns-in-None : goal.returns-in-None
+returns-in-None c = search lacks-none

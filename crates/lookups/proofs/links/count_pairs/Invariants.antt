@@ -5,6 +5,3 @@ use Rattle.lookups.proofs.links.count_pairs.Given as goal
 
 abbrev pub invariant-loop-i : goal.invariant-loop-i
 invariant-loop-i l = Counting l.parents l.width l.table l.n l.i l.k
-
-abbrev pub decreases-loop-i : goal.decreases-loop-i
-decreases-loop-i l = l.n - l.i

@@ -7,6 +7,3 @@ use Rattle.lookups.proofs.links.fill_pairs.Given as goal
 
 abbrev pub invariant-loop-i : goal.invariant-loop-i
 invariant-loop-i l = (length l.pairs ≡ length l.initial.pairs) × Filling l.parents l.width l.table l.edges l.n l.pairs l.i l.at l.k
-
-abbrev pub decreases-loop-i : goal.decreases-loop-i
-decreases-loop-i l = l.n - l.i

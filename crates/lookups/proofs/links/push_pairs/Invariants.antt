@@ -8,7 +8,7 @@ use Rattle.lookups.specs.Sides.{pair_of}
 use Rattle.lookups.proofs.links.push_pairs.Given as goal
 
 abbrev pub invariant-loop-j : goal.invariant-loop-j
-invariant-loop-j l = (l.j ≤ length l.list) × (length l.pairs ≡ length l.initial.pairs) × (take (l.k + l.j) (rows l.pairs) ≡ take l.k (rows l.initial.pairs) ++ map (pair_of l.id) (take l.j l.list))
-
-abbrev pub decreases-loop-j : goal.decreases-loop-j
-decreases-loop-j l = length l.list - l.j
+invariant-loop-j l =
+    (l.j ≤ length l.list)
+    × (length l.pairs ≡ length l.initial.pairs)
+    × (take (l.k + l.j) (rows l.pairs) ≡ take l.k (rows l.initial.pairs) ++ map (pair_of l.id) (take l.j l.list))

@@ -1,44 +1,32 @@
 -- `order::arrange::arrange` meets its contract: k nodes were taken, and what is left to do gives the whole answer.
-use mathlib.Core.Path.{refl, ◌∙◌}
-use Prim.Native.Nat.{zero-le, ◌*◌, ◌<◌}
-use native.Mathlib.Nat.{sub-zero}
+use mathlib.Core.Path.{◌∙◌}
+use Prim.Native.Nat.{◌*◌, ◌<◌}
 use native.Mathlib.Omega.{arith}
 use Rattle.order.proofs.AreaLoop.{done_at, laid_kept, next-at, told-cycle, told-deep, told-done, visit-kept}
 use Rattle.order.proofs.RunLaws.{going-cycle, going-deep, seen-deep, seen-on}
 use Rattle.order.proofs.StoreLaws.{drop-further}
-use Rattle.words.proofs.PartLaws.{part_length}
 use Rattle.order.proofs.arrange.arrange.Goals as goal
 
-pub loop-k-init : goal.loop-k-init
-loop-k-init c = (
-  zero-le,
-  record {
-    size = refl;
-    kept = refl;
-    going = record {
-      le = zero-le;
-      deg-n = part_length c.args.w.now 0 c.args.n (omega arith);
-      dep-n = part_length c.args.w.now c.args.n c.args.n (omega arith);
-      tree-n = c.requires.1;
-      slots = c.requires.2;
-      shallow = c.requires.3;
-      size = part_length c.args.w.now (4 * c.args.n) c.args.n (omega arith);
-      same = rw sub-zero refl;
-    };
-  },
+pub returns-then-n-i : goal.returns-then-n-i
+returns-then-n-i c = (
+  told-cycle _ c.args.m _ _ _
+      (going-cycle _ _ _ _ _ _ _ _ _ _ c.loop-k.invariant.1.going c.loop-k-test.true _ (c.index-i.ensures ∙ c.first_ready-x.ensures)
+      c.if-n-i.true),
+  c.loop-k.invariant.1.kept,
 )
 
-pub returns-then-n-i : goal.returns-then-n-i
-returns-then-n-i c =
-    (told-cycle _ c.args.m _ _ _ (going-cycle _ _ _ _ _ _ _ _ _ _ c.loop-k.invariant.1.going c.loop-k-test.true _ (c.index-i.ensures ∙ c.first_ready-x.ensures) c.if-n-i.true), c.loop-k.invariant.1.kept)
-
 pub take_node-v-requires : goal.take_node-v-requires
-take_node-v-requires c =
-    (laid_kept _ _ _ _ c.loop-k.invariant.1.kept c.loop-k.invariant.1.size c.requires.0, c.if-n-i.false, omega (arith, c.loop-k.invariant.1.going.shallow c.index-i.result, c.loop-k-test.true), c.loop-k.invariant.1.going.tree-n)
+take_node-v-requires c = (
+  laid_kept _ _ _ _ c.loop-k.invariant.1.kept c.loop-k.invariant.1.size c.requires.0,
+  c.if-n-i.false,
+  omega (arith, c.loop-k.invariant.1.going.shallow c.index-i.result, c.loop-k-test.true),
+  c.loop-k.invariant.1.going.tree-n,
+)
 
 pub returns-in-Deep : goal.returns-in-Deep
 returns-in-Deep c = (
-  told-deep c.args.n c.args.m c.args.lim c.args.w.now _ c.in-Deep.e (going-deep _ _ _ _ _ _ _ _ _ _ c.loop-k.invariant.1.going c.loop-k-test.true _ (c.index-i.ensures ∙ c.first_ready-x.ensures) c.if-n-i.false c.in-Deep.e
+  told-deep c.args.n c.args.m c.args.lim c.args.w.now _ c.in-Deep.e
+      (going-deep _ _ _ _ _ _ _ _ _ _ c.loop-k.invariant.1.going c.loop-k-test.true _ (c.index-i.ensures ∙ c.first_ready-x.ensures) c.if-n-i.false c.in-Deep.e
       (visit-kept c.args.n c.args.m c.args.lim _ _ c.args.w.now c.loop-k.w _ _ c.loop-k.invariant.1.kept (seen-deep _ _ _ _ c.take_node-v.ensures.0 c.in-Deep.is))),
   drop-further (5 * c.args.n) (4 * c.args.n) _ _ (omega arith) c.take_node-v.ensures.2 ∙ c.loop-k.invariant.1.kept,
 )
@@ -47,8 +35,10 @@ pub loop-k-preserved : goal.loop-k-preserved
 loop-k-preserved c =
     let k : c.loop-k.k < c.args.n = c.loop-k-test.true in (
       omega arith,
-      next-at c.args.n c.args.m c.args.lim c.args.w.now c.loop-k.w c.loop-k.k c.requires.0 c.loop-k.invariant.1 k c.index-i.result (c.index-i.ensures ∙ c.first_ready-x.ensures) c.if-n-i.false
-          c.take_node-v.new.w c.first_ready-x.result c.index-i.ensures c.take_node-v.auto.w c.take_node-v.ensures.2 (seen-on _ _ _ c.take_node-v.ensures.0 c.in_default.is) c.take_node-v.ensures.1,
+      next-at c.args.n c.args.m c.args.lim c.args.w.now c.loop-k.w c.loop-k.k c.requires.0 c.loop-k.invariant.1 k c.index-i.result
+          (c.index-i.ensures ∙ c.first_ready-x.ensures) c.if-n-i.false
+          c.take_node-v.new.w c.first_ready-x.result c.index-i.ensures c.take_node-v.auto.w c.take_node-v.ensures.2
+          (seen-on _ _ _ c.take_node-v.ensures.0 c.in_default.is) c.take_node-v.ensures.1,
     )
 
 pub returns : goal.returns

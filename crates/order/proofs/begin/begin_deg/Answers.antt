@@ -1,5 +1,5 @@
 -- `order::begin::begin_deg` meets its contract: after i turns the first i words are degrees, and those from n on are as they were.
-use mathlib.Core.Path.{refl, ◌∙◌, ◌≡◌}
+use mathlib.Core.Path.{refl, ◌∙◌}
 use Prim.Native.Nat.{zero-le, ◌<◌}
 use native.Mathlib.Omega.{arith}
 use lib.ListN.{length-set}
@@ -19,11 +19,7 @@ loop-i-preserved c =
     let h : c.loop-i.i < c.args.n = omega arith in (
       omega arith,
       length-set c.loop-i.w c.loop-i.i _ ∙ c.loop-i.invariant.1,
-      tab-more _ c.loop-i.w c.loop-i.i _ (omega (arith, c.requires.room)) (deg-is c.args.n c.args.m c.loop-i.i c.args.w.now c.loop-i.w c.requires h c.loop-i.invariant.3) c.loop-i.invariant.2,
+      tab-more _ c.loop-i.w c.loop-i.i _ (omega (arith, c.requires.room))
+          (deg-is c.args.n c.args.m c.loop-i.i c.args.w.now c.loop-i.w c.requires h c.loop-i.invariant.3) c.loop-i.invariant.2,
       drop-set-lt c.args.n c.loop-i.w c.loop-i.i _ h ∙ c.loop-i.invariant.3,
     )
-
-pub returns : goal.returns
-returns c =
-    let e : c.loop-i.i ≡ c.args.n = omega arith in
-    (rw e at c.loop-i.invariant.2, c.loop-i.invariant.3)

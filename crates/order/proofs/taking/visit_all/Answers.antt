@@ -17,20 +17,50 @@ node : (n : ℕ) (w₀ w : List ℕ) (from to j r : ℕ) → 4 * n ≤ from → 
 node n w₀ w from to j r h f k e all t = rw (child n w₀ w from j r h f k e) (all j f t)
 
 pub overflow_add-n : goal.overflow_add-n
-overflow_add-n c = omega (arith, node c.args.n _ _ _ _ _ _ c.requires.n_bound.0 c.loop-j.invariant.0 c.loop-j.invariant.4 c.index-c.ensures c.requires.by_index c.loop-j-test.true)
+overflow_add-n c =
+    omega (
+      arith,
+      node c.args.n _ _ _ _ _ _ c.requires.n_bound.0 c.loop-j.invariant.0 c.loop-j.invariant.4 c.index-c.ensures c.requires.by_index
+          c.loop-j-test.true,
+    )
 
 pub offset_bounds-w-n : goal.offset_bounds-w-n
-offset_bounds-w-n c = omega (arith, node c.args.n _ _ _ _ _ _ c.requires.n_bound.0 c.loop-j.invariant.0 c.loop-j.invariant.4 c.index-c.ensures c.requires.by_index c.loop-j-test.true)
+offset_bounds-w-n c =
+    omega (
+      arith,
+      node c.args.n _ _ _ _ _ _ c.requires.n_bound.0 c.loop-j.invariant.0 c.loop-j.invariant.4 c.index-c.ensures c.requires.by_index
+          c.loop-j-test.true,
+    )
 
 pub bounds-w-n : goal.bounds-w-n
-bounds-w-n c = omega (arith, node c.args.n _ _ _ _ _ _ c.requires.n_bound.0 c.loop-j.invariant.0 c.loop-j.invariant.4 c.index-c.ensures c.requires.by_index c.loop-j-test.true)
+bounds-w-n c =
+    omega (
+      arith,
+      node c.args.n _ _ _ _ _ _ c.requires.n_bound.0 c.loop-j.invariant.0 c.loop-j.invariant.4 c.index-c.ensures c.requires.by_index
+          c.loop-j-test.true,
+    )
 
 pub returns-then-lim-e : goal.returns-then-lim-e
-returns-then-lim-e c =
-    (c.loop-j.invariant.5 ∙ deep-at c.args.n _ _ _ _ _ c.loop-j.w c.loop-j-test.true c.requires.n_bound.2 _ _ (child c.args.n _ _ _ _ _ c.requires.n_bound.0 c.loop-j.invariant.0 c.loop-j.invariant.4 c.index-c.ensures) (depth-read c.args.n _ _ _ c.loop-j.w (node c.args.n _ _ _ _ _ _ c.requires.n_bound.0 c.loop-j.invariant.0 c.loop-j.invariant.4 c.index-c.ensures c.requires.by_index c.loop-j-test.true) c.larger-e.ensures) c.if-lim-e.true, c.loop-j.invariant.3, c.loop-j.invariant.4)
+returns-then-lim-e c = (
+  c.loop-j.invariant.5
+      ∙ deep-at c.args.n _ _ _ _ _ c.loop-j.w c.loop-j-test.true c.requires.n_bound.2 _ _
+      (child c.args.n _ _ _ _ _ c.requires.n_bound.0 c.loop-j.invariant.0 c.loop-j.invariant.4 c.index-c.ensures)
+      (depth-read c.args.n _ _ _ c.loop-j.w
+      (node c.args.n _ _ _ _ _ _ c.requires.n_bound.0 c.loop-j.invariant.0 c.loop-j.invariant.4 c.index-c.ensures c.requires.by_index
+      c.loop-j-test.true)
+      c.max-e.ensures)
+      c.if-lim-e.true,
+  c.loop-j.invariant.3,
+  c.loop-j.invariant.4,
+)
 
 pub reach-requires : goal.reach-requires
-reach-requires c = (node c.args.n _ _ _ _ _ _ c.requires.n_bound.0 c.loop-j.invariant.0 c.loop-j.invariant.4 c.index-c.ensures c.requires.by_index c.loop-j-test.true, omega arith, c.loop-j.invariant.3)
+reach-requires c = (
+  node c.args.n _ _ _ _ _ _ c.requires.n_bound.0 c.loop-j.invariant.0 c.loop-j.invariant.4 c.index-c.ensures c.requires.by_index
+      c.loop-j-test.true,
+  omega arith,
+  c.loop-j.invariant.3,
+)
 
 pub loop-j-preserved : goal.loop-j-preserved
 loop-j-preserved c =
@@ -40,7 +70,14 @@ loop-j-preserved c =
       c.reach.auto.w ∙ c.loop-j.invariant.2,
       c.reach.ensures.1,
       c.reach.ensures.2 ∙ c.loop-j.invariant.4,
-      c.loop-j.invariant.5 ∙ turn-next c.args.d c.args.lim c.loop-j.j c.args.to c.args.w.now t c.requires.n_bound.2 _ _ c.index-c.result _ (child c.args.n _ _ _ _ _ c.requires.n_bound.0 c.loop-j.invariant.0 c.loop-j.invariant.4 c.index-c.ensures) (depth-read c.args.n _ _ _ c.loop-j.w (node c.args.n _ _ _ _ _ _ c.requires.n_bound.0 c.loop-j.invariant.0 c.loop-j.invariant.4 c.index-c.ensures c.requires.by_index c.loop-j-test.true) c.larger-e.ensures) c.if-lim-e.false c.reach.ensures.0,
+      c.loop-j.invariant.5
+          ∙ turn-next c.args.d c.args.lim c.loop-j.j c.args.to c.args.w.now t c.requires.n_bound.2 _ _ c.index-c.result _
+          (child c.args.n _ _ _ _ _ c.requires.n_bound.0 c.loop-j.invariant.0 c.loop-j.invariant.4 c.index-c.ensures)
+          (depth-read c.args.n _ _ _ c.loop-j.w
+          (node c.args.n _ _ _ _ _ _ c.requires.n_bound.0 c.loop-j.invariant.0 c.loop-j.invariant.4 c.index-c.ensures c.requires.by_index
+          c.loop-j-test.true)
+          c.max-e.ensures)
+          c.if-lim-e.false c.reach.ensures.0,
     )
 
 pub returns : goal.returns

@@ -1,5 +1,4 @@
 -- `ordered::judging::judge_order` meets its contract: each answer of the graph's order is that of the rule book's order, and the nodes left become ids.
-use mathlib.Core.Path.{◌∙◌}
 use native.Mathlib.Omega.{arith}
 use Rattle.ordered.proofs.JudgeLaws.{judged-cyclic, judged-depth, judged-whole, taken-nodes, told-cyclic, told-depth, told-whole, whole-front}
 use Rattle.ordered.proofs.judging.judge_order.Goals as goal
@@ -17,9 +16,9 @@ returns-in-Whole c =
 pub returns-in-Depth : goal.returns-in-Depth
 returns-in-Depth c =
     let r = judged-depth c.args.w.now c.args.n c.args.e c.args.at c.requires.0 c.requires.1 c.requires.2 c.requires.3 c.args.limit _ _ (told-depth c.order_nodes-order.result _ _ _ c.order_nodes-order.ensures.0 c.in-Depth.is) in
-    record { value = c.refuse.ensures ∙ r.0; w_unchanged = c.order_nodes-order.ensures.1; order_left = r.1 }
+    record { value = r.0; w_unchanged = c.order_nodes-order.ensures.1; order_left = r.1 }
 
 pub returns-in-Cycle : goal.returns-in-Cycle
 returns-in-Cycle c =
     let r = judged-cyclic c.args.w.now c.args.n c.args.e c.args.at c.requires.0 c.requires.1 c.requires.2 c.requires.3 c.args.limit _ (told-cyclic c.order_nodes-order.result _ _ c.order_nodes-order.ensures.0 c.in-Cycle.is) in
-    record { value = c.refuse-in-Cycle.ensures ∙ r.0; w_unchanged = c.order_nodes-order.ensures.1; order_left = r.1 }
+    record { value = r.0; w_unchanged = c.order_nodes-order.ensures.1; order_left = r.1 }

@@ -12,10 +12,10 @@ find_row-found-requires c =
     let e = rows-lent c.args.w.now c.args.n in
     record { width_nonzero = omega arith; width_in_bounds = rw (e, part_length c.args.w.now 0 (c.args.n * held_width) (omega arith)) (le_refl _); ascends = rw e c.requires.1 }
 
-pub returns-in-At : goal.returns-in-At
-returns-in-At c =
-    row_at c.args.w.now c.args.n c.args.id _ c.find_row-found.ensures _ c.in-At.is
+pub returns-in-Some : goal.returns-in-Some
+returns-in-Some c =
+    row_at c.args.w.now c.args.n c.args.id _ c.find_row-found.ensures _ c.in-Some.is
 
-pub returns-in-Nothing : goal.returns-in-Nothing
-returns-in-Nothing c =
-    row-none c.args.w.now c.args.n c.args.id _ c.find_row-found.ensures c.in-Nothing.is
+pub returns-in-None : goal.returns-in-None
+returns-in-None c =
+    row-none c.args.w.now c.args.n c.args.id _ c.find_row-found.ensures c.in-None.is

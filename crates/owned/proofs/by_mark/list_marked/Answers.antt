@@ -10,10 +10,7 @@ loop-i-init c = (search rules, search rules, search rules, written_start _ _ _ _
 
 pub loop-i-preserved : goal.loop-i-preserved
 loop-i-preserved c =
-    let e = written_next c.args.w.now c.args.b c.args.s c.args.mark c.loop-i.i c.loop-i.len c.loop-i.list c.args.list.now _ _ c.loop-i.invariant.3 (omega arith) c.list_one-len.ensures.list_after c.list_one-len.ensures.value in
+    let e =
+    written_next c.args.w.now c.args.b c.args.s c.args.mark c.loop-i.i c.loop-i.len c.loop-i.list c.args.list.now _ _
+    c.loop-i.invariant.3 (omega arith) c.list_one-len.ensures.list_after c.list_one-len.ensures.value in
     (search rules, omega (arith, e.1), c.list_one-len.auto.list ∙ c.loop-i.invariant.2, e.0)
-
-pub returns : goal.returns
-returns c =
-    let e = written-end c.args.w.now c.args.b c.args.s c.args.mark c.args.k c.loop-i.i c.loop-i.len c.loop-i.list c.args.list.now c.loop-i.invariant.3 c.loop-i.invariant.0 c.loop-i-test.false in
-    record { list_after = e.0; value = e.1 }

@@ -7,9 +7,9 @@ use Rattle.words.specs.Table.{Ascends}
 use Rattle.owned.specs.Marks.{Raised}
 use Rattle.owned.proofs.marks.raise_all.Given as goal
 
-abbrev pub invariant-loop-j : goal.invariant-loop-j
-invariant-loop-j l =
-    (l.j ≤ length l.list) × (length l.w ≡ length l.initial.w) × Ascends (part l.w l.b l.k) × Raised (take l.j l.list) l.from l.to l.b l.s l.k l.initial.w l.w
-
-abbrev pub decreases-loop-j : goal.decreases-loop-j
-decreases-loop-j l = length l.list - l.j
+abbrev pub invariant-loop-x : goal.invariant-loop-x
+invariant-loop-x l =
+    (l.x-index ≤ length l.list)
+    × (length l.w ≡ length l.initial.w)
+    × Ascends (part l.w l.b l.k)
+    × Raised (take l.x-index l.list) l.from l.to l.b l.s l.k l.initial.w l.w

@@ -9,13 +9,15 @@ find_row-found-requires c =
     record { width_nonzero = e.0; width_in_bounds = e.1.0; ascends = e.1.1 }
 
 pub overflow_add-s : goal.overflow_add-s
-overflow_add-s c = omega (arith, hit-room c.args.x c.args.from c.args.to c.args.b c.args.s c.args.k c.args.w.now c.requires.0 c.requires.1 c.requires.2 c.find_row-found.result c.find_row-found.ensures _ c.in-At.is)
+overflow_add-s c = omega (arith, hit-room c.args.x c.args.from c.args.to c.args.b c.args.s c.args.k c.args.w.now c.requires.0 c.requires.1 c.requires.2 c.find_row-found.result c.find_row-found.ensures _ c.in-Some.is)
 
 pub raise_word-requires : goal.raise_word-requires
-raise_word-requires c = hit-room c.args.x c.args.from c.args.to c.args.b c.args.s c.args.k c.args.w.now c.requires.0 c.requires.1 c.requires.2 c.find_row-found.result c.find_row-found.ensures _ c.in-At.is
+raise_word-requires c = hit-room c.args.x c.args.from c.args.to c.args.b c.args.s c.args.k c.args.w.now c.requires.0 c.requires.1 c.requires.2 c.find_row-found.result c.find_row-found.ensures _ c.in-Some.is
 
-pub returns-in-At : goal.returns-in-At
-returns-in-At c = one_hit c.args.x c.args.from c.args.to c.args.b c.args.s c.args.k c.args.w.now c.requires.0 c.requires.1 c.requires.2 c.find_row-found.result c.find_row-found.ensures _ c.in-At.is _ c.raise_word.ensures
+pub returns-in-Some : goal.returns-in-Some
+returns-in-Some c = one_hit c.args.x c.args.from c.args.to c.args.b c.args.s c.args.k c.args.w.now c.requires.0 c.requires.1 c.requires.2 c.find_row-found.result c.find_row-found.ensures _ c.in-Some.is _ c.raise_word.ensures
 
 pub returns-in_default : goal.returns-in_default
-returns-in_default c = one-miss c.args.x c.args.from c.args.to c.args.b c.args.s c.args.k c.args.w.now c.requires.0 c.requires.1 c.requires.2 c.find_row-found.result c.find_row-found.ensures c.in_default.is
+returns-in_default c =
+    one-miss c.args.x c.args.from c.args.to c.args.b c.args.s c.args.k c.args.w.now c.requires.0 c.requires.1 c.requires.2
+    c.find_row-found.result c.find_row-found.ensures c.in_default.is

@@ -9,6 +9,3 @@ use Rattle.owned.proofs.roots.mark_roots.Given as goal
 abbrev pub invariant-loop-i : goal.invariant-loop-i
 invariant-loop-i l =
     (l.i ≤ l.k) × (length l.w ≡ length l.initial.w) × Marked (λ (x : ℕ). tick (root_of l.rows l.h x)) l.b l.s l.i l.initial.w l.w
-
-abbrev pub decreases-loop-i : goal.decreases-loop-i
-decreases-loop-i l = l.k - l.i

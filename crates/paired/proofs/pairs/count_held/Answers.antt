@@ -1,14 +1,11 @@
 -- `paired::pairs::count_held` meets its contract: after j turns `held` counts those among the first j ids that were held.
-use Rattle.paired.proofs.Placing.{count-start, count-hit, count-miss, count-end}
+use Rattle.paired.proofs.Placing.{count-start, count-hit, count-miss}
 use borrow.Author.Rules.{rules}
 use Rattle.paired.proofs.pairs.count_held.Goals as goal
 use Rattle.paired.proofs.pairs.count_held.Goals.{then-is_held, else-is_held}
 
-pub loop-j-init : goal.loop-j-init
-loop-j-init c = (search rules, search rules, search count-start)
+pub loop-id-init : goal.loop-id-init
+loop-id-init c = (search rules, search rules, search count-start)
 
-pub loop-j-preserved : goal.loop-j-preserved
-loop-j-preserved c = elim c.if-is_held.branch [ then-is_held w ↦ (search rules, search rules, search count-hit) | else-is_held w ↦ (search rules, search rules, search count-miss) ]
-
-pub returns : goal.returns
-returns c = search count-end
+pub loop-id-preserved : goal.loop-id-preserved
+loop-id-preserved c = elim c.if-is_held.branch [ then-is_held w ↦ (search rules, search rules, search count-hit) | else-is_held w ↦ (search rules, search rules, search count-miss) ]

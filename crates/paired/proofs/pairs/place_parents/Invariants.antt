@@ -1,5 +1,5 @@
 -- `paired::pairs::place_parents` meets its contract: after j turns the pairs of the first j parents are placed, and no word before `at` has changed.
-use Prim.Native.Nat.{◌≤◌, ◌-◌}
+use Prim.Native.Nat.{◌≤◌}
 use mathlib.Core.List.{map}
 use lib.ListN.{take}
 use Rattle.words.specs.Part.{part}
@@ -8,7 +8,7 @@ use Rattle.paired.specs.Pairs.{pair_of, Placed}
 use Rattle.paired.proofs.pairs.place_parents.Given as goal
 
 abbrev pub invariant-loop-j : goal.invariant-loop-j
-invariant-loop-j l = (l.j ≤ l.count) × Placed l.initial.w l.w l.at l.k l.r (map (pair_of l.merge l.child) (known (take l.j (part l.initial.w l.from l.count)) (ids_in l.old l.h)))
-
-abbrev pub decreases-loop-j : goal.decreases-loop-j
-decreases-loop-j l = l.count - l.j
+invariant-loop-j l =
+    (l.j ≤ l.count)
+    × Placed l.initial.w l.w l.at l.k l.r
+    (map (pair_of l.merge l.child) (known (take l.j (part l.initial.w l.from l.count)) (ids_in l.old l.h)))

@@ -7,7 +7,6 @@ use Rattle.reading.specs.Lists.{items_of, numbers_of, listed}
 use Rattle.reading.proofs.items.count_items.Given as goal
 
 abbrev pub invariant-loop-n : goal.invariant-loop-n
-invariant-loop-n l = (l.from ≤ length l.field) × (listed_from l.n (numbers_of (l.room - l.n) (items_of (drop l.from l.field))) ≡ listed (numbers_of l.room (items_of l.field)))
-
-abbrev pub decreases-loop-n : goal.decreases-loop-n
-decreases-loop-n l = l.room - l.n
+invariant-loop-n l =
+    (l.from ≤ length l.field)
+    × (listed_from l.n (numbers_of (l.room - l.n) (items_of (drop l.from l.field))) ≡ listed (numbers_of l.room (items_of l.field)))

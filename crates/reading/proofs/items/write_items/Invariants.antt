@@ -7,7 +7,9 @@ use Rattle.reading.specs.Lists.{items_of, front}
 use Rattle.reading.proofs.items.write_items.Given as goal
 
 abbrev pub invariant-loop-n : goal.invariant-loop-n
-invariant-loop-n l = (l.from ≤ length l.field) × (l.n ≤ length l.words) × (length l.words ≡ length l.initial.words) × (drop l.n l.words ≡ drop l.n l.initial.words) × (take l.n l.words ++ front (length l.words - l.n) (items_of (drop l.from l.field)) ≡ front (length l.initial.words) (items_of l.field))
-
-abbrev pub decreases-loop-n : goal.decreases-loop-n
-decreases-loop-n l = length l.initial.words - l.n
+invariant-loop-n l =
+    (l.from ≤ length l.field)
+    × (l.n ≤ length l.words)
+    × (length l.words ≡ length l.initial.words)
+    × (drop l.n l.words ≡ drop l.n l.initial.words)
+    × (take l.n l.words ++ front (length l.words - l.n) (items_of (drop l.from l.field)) ≡ front (length l.initial.words) (items_of l.field))

@@ -10,7 +10,9 @@ pub returns-then-line-n : goal.returns-then-line-n
 returns-then-line-n c = no_such c.args.line.now c.args.kept c.args.b _ c.in-Bytes.is c.if-line-n.true
 
 pub overflow_sub-line : goal.overflow_sub-line
-overflow_sub-line c = omega (arith, replaced-two c.args.line.now c.in-Bytes.n c.args.b c.replaces.result c.if-line-n.false c.replaces.ensures c.if-replaces.true)
+overflow_sub-line c =
+    omega
+    (arith, replaced-two c.args.line.now c.in-Bytes.n c.args.b c.replaces.result c.if-line-n.false c.replaces.ensures c.if-replaces.true)
 
 pub bounds-line-n : goal.bounds-line-n
 bounds-line-n c = omega (arith, replaced-two c.args.line.now c.in-Bytes.n c.args.b c.replaces.result c.if-line-n.false c.replaces.ensures c.if-replaces.true)

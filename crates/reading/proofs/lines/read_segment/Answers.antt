@@ -23,7 +23,14 @@ pub returns-in_default-read_row : goal.returns-in_default-read_row
 returns-in_default-read_row c = segment-out (segment_line (length c.args.edges.now) c.args.line.now) c.args.edges.now (search segment-row)
 
 pub slice_bounds-list_at-count : goal.slice_bounds-list_at-count
-slice_bounds-list_at-count c = omega (arith, (count_fits (length c.args.edges.now) (field c.args.line.now 8) _ _ c.length_at.ensures c.in-Items.is), first-length c.args.edges.now c.list_at.new.words (list_words (list_of (length c.args.edges.now) (field c.args.line.now 8))) c.in-Items.parents (measured _ (list_of (length c.args.edges.now) (field c.args.line.now 8)) _ c.length_at.ensures c.in-Items.is) (count_fits (length c.args.edges.now) (field c.args.line.now 8) _ _ c.length_at.ensures c.in-Items.is) c.list_at.ensures)
+slice_bounds-list_at-count c =
+    omega (
+      arith,
+      (count_fits (length c.args.edges.now) (field c.args.line.now 8) _ _ c.length_at.ensures c.in-Items.is),
+      first-length c.args.edges.now c.list_at.new.words (list_words (list_of (length c.args.edges.now) (field c.args.line.now 8)))
+          c.in-Items.parents (measured _ (list_of (length c.args.edges.now) (field c.args.line.now 8)) _ c.length_at.ensures c.in-Items.is)
+          (count_fits (length c.args.edges.now) (field c.args.line.now 8) _ _ c.length_at.ensures c.in-Items.is) c.list_at.ensures,
+    )
 
 pub returns : goal.returns
 returns c =
@@ -33,5 +40,9 @@ returns c =
     c.args.edges.now
     _
     _
-    (segment-read c.args.line.now _ _ c.count_fields.ensures c.if-count_fields-ne10.false _ c.length_at.ensures _ c.in-Items.is _ c.length_at-2.ensures _ c.in-Items-length_at.is _ c.read_row.ensures _ c.in-Words.is)
-    (both-listed c.args.edges.now c.list_at.new.words (list_words (list_of (length c.args.edges.now) (field c.args.line.now 8))) c.in-Items.parents (measured _ (list_of (length c.args.edges.now) (field c.args.line.now 8)) _ c.length_at.ensures c.in-Items.is) (count_fits (length c.args.edges.now) (field c.args.line.now 8) _ _ c.length_at.ensures c.in-Items.is) c.list_at.ensures (field c.args.line.now 9) _ c.list_at-2.ensures)
+    (segment-read c.args.line.now _ _ c.count_fields.ensures c.if-count_fields-ne10.false _ c.length_at.ensures _ c.in-Items.is _
+    c.length_at-2.ensures _ c.in-Items-length_at.is _ c.read_row.ensures _ c.in-Words.is)
+    (both-listed c.args.edges.now c.list_at.new.words (list_words (list_of (length c.args.edges.now) (field c.args.line.now 8)))
+    c.in-Items.parents (measured _ (list_of (length c.args.edges.now) (field c.args.line.now 8)) _ c.length_at.ensures c.in-Items.is)
+    (count_fits (length c.args.edges.now) (field c.args.line.now 8) _ _ c.length_at.ensures c.in-Items.is) c.list_at.ensures
+    (field c.args.line.now 9) _ c.list_at-2.ensures)

@@ -6,8 +6,5 @@ use Rattle.reading.specs.declared.numbers.Number.TheVariants.{Value}
 use Rattle.reading.specs.Numbers.{number_of, onward}
 use Rattle.reading.proofs.numbers.read_number.Given as goal
 
-abbrev pub invariant-loop-i : goal.invariant-loop-i
-invariant-loop-i l = (l.i ≤ length l.field) × (onward (Value l.number) (drop l.i l.field) ≡ number_of l.field)
-
-abbrev pub decreases-loop-i : goal.decreases-loop-i
-decreases-loop-i l = length l.field - l.i
+abbrev pub invariant-loop-b : goal.invariant-loop-b
+invariant-loop-b l = (l.b-index ≤ length l.field) × (onward (Value l.number) (drop l.b-index l.field) ≡ number_of l.field)

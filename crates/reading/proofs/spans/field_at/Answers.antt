@@ -16,7 +16,10 @@ pub overflow_add-from : goal.overflow_add-from
 overflow_add-from c = omega (arith, to-fits c.args.line.now c.loop-left.from c.end_of-to.result 32 c.end_of-to.ensures c.loop-left.invariant.0)
 
 pub loop-left-preserved : goal.loop-left-preserved
-loop-left-preserved c = (omega (arith, to-fits c.args.line.now c.loop-left.from c.end_of-to.result 32 c.end_of-to.ensures c.loop-left.invariant.0), search next_field)
+loop-left-preserved c = (
+  omega (arith, to-fits c.args.line.now c.loop-left.from c.end_of-to.result 32 c.end_of-to.ensures c.loop-left.invariant.0),
+  search next_field,
+)
 
 pub returns : goal.returns
 returns c = (omega arith, search to-fits, search this-field)

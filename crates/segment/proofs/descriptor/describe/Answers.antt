@@ -1,9 +1,10 @@
 -- `segment::descriptor::describe` meets its contract: the judgement over its words is the rule's, and each arm of the match answers as the rule does there.
+use native.Mathlib.Omega.{arith}
 use Rattle.segment.proofs.Descriptors.{described-refused, described-held}
 use Rattle.segment.proofs.descriptor.describe.Goals as goal
 
-pub returns-in-Refused : goal.returns-in-Refused
-returns-in-Refused c = search described-refused
+pub returns-in_err-judge_words : goal.returns-in_err-judge_words
+returns-in_err-judge_words c = grind (arith, described-refused c.args.info c.args.placed _ c.judge_words.ensures)
 
-pub returns-in-Accepted : goal.returns-in-Accepted
-returns-in-Accepted c = search described-held
+pub returns : goal.returns
+returns c = described-held c.args.info c.args.placed _ c.judge_words.ensures _ c.in_ok-judge_words.was c.hold.ensures

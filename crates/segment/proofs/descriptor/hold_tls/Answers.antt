@@ -3,8 +3,8 @@ use Rattle.rules.specs.Descriptor.{tls_of}
 use Rattle.segment.proofs.Match.{told}
 use Rattle.segment.proofs.descriptor.hold_tls.Goals as goal
 
-pub returns-in-Nowhere : goal.returns-in-Nowhere
-returns-in-Nowhere c = search (told tls_of)
+pub returns-in-None : goal.returns-in-None
+returns-in-None c = search (told tls_of)
 
-pub returns-in-At : goal.returns-in-At
-returns-in-At c = search (told tls_of)
+pub returns-in-Some : goal.returns-in-Some
+returns-in-Some c = search (told tls_of)

@@ -3,10 +3,10 @@ use Rattle.rules.specs.Descriptor.{bad_placed}
 use Rattle.segment.proofs.Match.{told}
 use Rattle.segment.proofs.descriptor.is_bad_placed.Goals as goal
 
-pub returns-in-Nowhere : goal.returns-in-Nowhere
+pub returns-in-None : goal.returns-in-None
 unfolding bad_placed
-returns-in-Nowhere c = search (told bad_placed)
+returns-in-None c = search (told bad_placed)
 
-pub returns-in-At : goal.returns-in-At
+pub returns-in-Some : goal.returns-in-Some
 unfolding bad_placed
-returns-in-At c = search (told bad_placed)
+returns-in-Some c = search (told bad_placed)

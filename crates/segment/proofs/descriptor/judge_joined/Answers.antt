@@ -3,10 +3,10 @@ use Rattle.rules.specs.Descriptor.{joined_rule}
 use Rattle.segment.proofs.Match.{answered}
 use Rattle.segment.proofs.descriptor.judge_joined.Goals as goal
 
-pub returns-in-Nowhere : goal.returns-in-Nowhere
+pub returns-in-None : goal.returns-in-None
 unfolding joined_rule
-returns-in-Nowhere c = search (answered joined_rule)
+returns-in-None c = search (answered joined_rule)
 
-pub returns-in-At : goal.returns-in-At
+pub returns-in-Some : goal.returns-in-Some
 unfolding joined_rule
-returns-in-At c = search (answered joined_rule)
+returns-in-Some c = search (answered joined_rule)

@@ -17,7 +17,7 @@ decreases-loop-j l = l.i - l.j
 
 abbrev pub invariant-items : goal.invariant-items
 invariant-items l =
-    (l.i ≤ length l.list) × (list_rule l.number l.id.0 l.list ≡ items_from l.number l.id.0 (take l.i l.list) (drop l.i l.list)) × Under l.list l.i l.top
+    (l.i ≤ length l.list) × (list_rule l.side l.id.0 l.list ≡ items_from l.side l.id.0 (take l.i l.list) (drop l.i l.list)) × Under l.list l.i l.top
 
 abbrev pub decreases-items : goal.decreases-items
 decreases-items l = length l.list - l.i

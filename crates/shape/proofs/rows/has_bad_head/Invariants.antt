@@ -7,6 +7,3 @@ use Rattle.shape.proofs.rows.has_bad_head.Given as goal
 
 abbrev pub invariant-loop-i : goal.invariant-loop-i
 invariant-loop-i l = any_bad bad_head row_width l.rows l.n 0 ≡ any_bad bad_head row_width l.rows (l.n - l.i) l.i
-
-abbrev pub decreases-loop-i : goal.decreases-loop-i
-decreases-loop-i l = l.n - l.i

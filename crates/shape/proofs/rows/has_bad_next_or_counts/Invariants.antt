@@ -8,6 +8,3 @@ use Rattle.shape.proofs.rows.has_bad_next_or_counts.Given as goal
 
 abbrev pub invariant-loop-i : goal.invariant-loop-i
 invariant-loop-i l = (any_bad bad_next held_width l.rows l.n 0 ≡ any_bad bad_next held_width l.rows (l.n - l.i) l.i) × (edges_from held_width l.rows l.n 0 + l.left ≡ edges_from held_width l.rows (l.n - l.i) l.i + l.len)
-
-abbrev pub decreases-loop-i : goal.decreases-loop-i
-decreases-loop-i l = l.n - l.i

@@ -7,6 +7,3 @@ use Rattle.shape.proofs.rows.has_bad_place.Given as goal
 
 abbrev pub invariant-loop-i : goal.invariant-loop-i
 invariant-loop-i l = any_bad bad_place place_width l.places l.m 0 ≡ any_bad bad_place place_width l.places (l.m - l.i) l.i
-
-abbrev pub decreases-loop-i : goal.decreases-loop-i
-decreases-loop-i l = l.m - l.i

@@ -6,6 +6,3 @@ use Rattle.shape.proofs.rows.has_wrong_counts.Given as goal
 
 abbrev pub invariant-loop-i : goal.invariant-loop-i
 invariant-loop-i l = edges_from row_width l.rows l.n 0 + l.left ≡ edges_from row_width l.rows (l.n - l.i) l.i + l.len
-
-abbrev pub decreases-loop-i : goal.decreases-loop-i
-decreases-loop-i l = l.n - l.i

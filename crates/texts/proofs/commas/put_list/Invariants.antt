@@ -1,5 +1,5 @@
 -- `texts::commas::put_list` meets its contract: each need is arithmetic, a law that is imported, or what a callee promised.
-use Prim.Native.Nat.{◌≤◌, ◌-◌}
+use Prim.Native.Nat.{◌≤◌}
 use lib.ListN.{length}
 use mathlib.Core.Path.{◌≡◌}
 use mathlib.Core.List.{map}
@@ -9,7 +9,8 @@ use Rattle.texts.proofs.CommaLaws.{behind}
 use Rattle.texts.proofs.commas.put_list.Given as goal
 
 abbrev pub invariant-loop-i : goal.invariant-loop-i
-invariant-loop-i l = (1 ≤ l.i) × (l.i ≤ l.n) × (length l.out ≡ length l.initial.out) × Wrote l.initial.out l.initial.p (behind (map decimal l.list) l.i) l.out l.p
-
-abbrev pub decreases-loop-i : goal.decreases-loop-i
-decreases-loop-i l = l.n - l.i
+invariant-loop-i l =
+    (1 ≤ l.i)
+    × (l.i ≤ l.n)
+    × (length l.out ≡ length l.initial.out)
+    × Wrote l.initial.out l.initial.p (behind (map decimal l.list) l.i) l.out l.p

@@ -1,5 +1,5 @@
 -- `texts::commas::put_pairs` meets its contract: each need is arithmetic, a law that is imported, or what a callee promised.
-use Prim.Native.Nat.{◌≤◌, ◌-◌}
+use Prim.Native.Nat.{◌≤◌}
 use lib.ListN.{length}
 use mathlib.Core.Path.{◌≡◌}
 use Rattle.texts.specs.Written.{Wrote}
@@ -8,7 +8,8 @@ use Rattle.texts.proofs.CommaLaws.{behind}
 use Rattle.texts.proofs.commas.put_pairs.Given as goal
 
 abbrev pub invariant-loop-i : goal.invariant-loop-i
-invariant-loop-i l = (1 ≤ l.i) × (l.i ≤ l.n) × (length l.out ≡ length l.initial.out) × Wrote l.initial.out l.initial.p (behind (pair_texts l.mark l.pairs) l.i) l.out l.p
-
-abbrev pub decreases-loop-i : goal.decreases-loop-i
-decreases-loop-i l = l.n - l.i
+invariant-loop-i l =
+    (1 ≤ l.i)
+    × (l.i ≤ l.n)
+    × (length l.out ≡ length l.initial.out)
+    × Wrote l.initial.out l.initial.p (behind (pair_texts l.mark l.pairs) l.i) l.out l.p

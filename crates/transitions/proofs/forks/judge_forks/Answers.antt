@@ -1,23 +1,26 @@
 -- `judge_forks` is `forks_from` over all segments. The invariant: the words before `at` stay, the edges of row i begin at `start`, and all is judged but the rows from i on. The measure is how many those are.
-use Rattle.transitions.proofs.Passing.{passed_start, passed-edged, passed-row, passed-room, passed-next, forks-next, forks-stop, forks-end, kept-twice}
-use mathlib.Core.Path.{refl}
+use Rattle.transitions.proofs.Passing.{passed-edged, passed-row, passed-room, passed-next, forks-next, forks-stop, forks-end, kept-twice}
 use borrow.Author.Rules.{rules}
+use native.Mathlib.Omega.{arith}
 use Rattle.transitions.proofs.forks.judge_forks.Goals as goal
 
-pub loop-i-init : goal.loop-i-init
-loop-i-init c = (search passed_start, refl)
-
 pub edges_end-end-requires : goal.edges_end-end-requires
-edges_end-end-requires c = record { held_width_in_bounds = search passed-row; held_width_in_bounds_2 = search passed-room }
+edges_end-end-requires c = record { held_width_in_bounds = search passed-row; edges_in_area = search passed-room }
 
-pub judge_fork-judged-requires : goal.judge_fork-judged-requires
-judge_fork-judged-requires c = search passed-edged
+pub judge_fork-requires : goal.judge_fork-requires
+judge_fork-requires c = search passed-edged
 
-pub returns-in_default : goal.returns-in_default
-returns-in_default c = record { value = search forks-stop; w_unchanged = search kept-twice }
+pub returns-in_err-judge_fork : goal.returns-in_err-judge_fork
+returns-in_err-judge_fork c = record {
+  value = grind (
+    arith,
+    forks-stop _ _ _ _ _ _ _ c.requires.e_bound c.loop-i.invariant.0 c.loop-i-test.true c.loop-i.invariant.1 _ _ c.judge_fork.ensures.value c.in_err-judge_fork.was,
+  );
+  w_unchanged = search kept-twice;
+}
 
 pub loop-i-preserved : goal.loop-i-preserved
-loop-i-preserved c = (search passed-next, search forks-next)
+loop-i-preserved c = (search passed-next, search (forks-next, c.in_ok-judge_fork.was))
 
 pub returns : goal.returns
 returns c = record { value = search forks-end; w_unchanged = search rules }

@@ -10,8 +10,8 @@ find_row-requires c = record { width_nonzero = search rules; width_in_bounds = s
 pub parents-requires : goal.parents-requires
 parents-requires c = search found-room
 
-pub returns-in-At : goal.returns-in-At
-returns-in-At c = search count-some
+pub returns-in-Some : goal.returns-in-Some
+returns-in-Some c = search count-some
 
-pub returns-in-Nothing : goal.returns-in-Nothing
-returns-in-Nothing c = search count_none
+pub returns-in-None : goal.returns-in-None
+returns-in-None c = search count_none

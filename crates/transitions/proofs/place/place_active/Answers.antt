@@ -1,10 +1,7 @@
 -- `place_active` places the ranges of the Active segments. The invariant: what stands and then what the rest of the rows gives is all; the words before `at` stay. The measure is how many rows are left.
-use Rattle.transitions.proofs.Placing.{placed-start, active-image, active-next, active-end}
+use Rattle.transitions.proofs.Placing.{active-image, active-next, active-end}
 use borrow.Author.Rules.{rules}
 use Rattle.transitions.proofs.place.place_active.Goals as goal
-
-pub loop-i-init : goal.loop-i-init
-loop-i-init c = (search rules, search placed-start)
 
 pub place_one-k-requires : goal.place_one-k-requires
 place_one-k-requires c = record { image = search active-image; i_lt_n = search rules; k_in_bounds = search rules }

@@ -10,8 +10,8 @@ find_row-requires c = record { width_nonzero = search rules; width_in_bounds = s
 pub place_row-requires : goal.place_row-requires
 place_row-requires c = record { held_width_in_bounds = search found-room; k_in_bounds = search rules }
 
-pub returns-in-At : goal.returns-in-At
-returns-in-At c = search grown-some
+pub returns-in-Some : goal.returns-in-Some
+returns-in-Some c = search grown-some
 
-pub returns-in-Nothing : goal.returns-in-Nothing
-returns-in-Nothing c = search grown-none
+pub returns-in-None : goal.returns-in-None
+returns-in-None c = search grown-none

@@ -1,10 +1,7 @@
 -- `place_listed` places the ranges of the listed segments. The invariant: what stands and then what the rest of the list gives is all; the words before `at` stay. The measure is how many ids are left.
-use Rattle.transitions.proofs.Placing.{placed-start, listed-image, listed_next, listed-end}
+use Rattle.transitions.proofs.Placing.{listed-image, listed_next, listed-end}
 use borrow.Author.Rules.{rules}
 use Rattle.transitions.proofs.place.place_listed.Goals as goal
-
-pub loop-i-init : goal.loop-i-init
-loop-i-init c = (search rules, search placed-start)
 
 pub place_id-k-requires : goal.place_id-k-requires
 place_id-k-requires c = record { image = search listed-image; k_in_bounds = search rules }

@@ -5,37 +5,52 @@ use lib.ListN.{length-set}
 use Rattle.walk.proofs.Climbing.{climb-start, climb-asks, climb-next, climb-end}
 use Rattle.walk.proofs.climb.climb.Goals as goal
 
-pub bounds-w-n-2 : goal.bounds-w-n-2
-bounds-w-n-2 c = simp length-set (omega arith)
-
 pub loop-q-init : goal.loop-q-init
 loop-q-init c =
-    let b = climb-start c.args.rows.now c.args.edges.now c.args.n c.requires.tabled.0 c.args.a c.requires.tabled.1 c.args.w.now (omega (arith, c.requires.n_in_bounds.0)) c.requires.n_in_bounds.2 c.requires.n_in_bounds.1 in
+    let b =
+    climb-start c.args.rows.now c.args.edges.now c.args.n c.requires.tabled.0 c.args.a c.requires.tabled.1 c.args.w.now
+    (omega (arith, c.requires.n_in_bounds.0)) c.requires.n_in_bounds.2 c.requires.n_in_bounds.1 in
     (omega arith, omega (arith, c.requires.tabled.1), omega arith, refl, simp length-set c.requires.n_in_bounds.0, b.0, b.1)
 
 pub visit-t-requires : goal.visit-t-requires
 visit-t-requires c =
-    let a = climb-asks c.args.rows.now c.args.edges.now c.args.n c.requires.tabled.0 c.args.a c.requires.tabled.1 c.loop-q.q c.loop-q.t.met c.loop-q.t.bare c.loop-q.m c.loop-q.w c.loop-q.invariant.1 (omega (arith, c.loop-q.invariant.4)) c.loop-q.invariant.6 c.loop-q-test.true in
-    record { tabled = (c.requires.tabled.0, a.0, c.loop-q.invariant.5); met_le_n = (c.loop-q.invariant.1, a.1, a.2, c.loop-q.invariant.6.held); n_in_bounds = c.loop-q.invariant.4 }
+    let a =
+    climb-asks c.args.rows.now c.args.edges.now c.args.n c.requires.tabled.0 c.args.a c.requires.tabled.1 c.loop-q.q c.loop-q.t.met
+    c.loop-q.t.bare c.loop-q.m c.loop-q.w c.loop-q.invariant.1 (omega (arith, c.loop-q.invariant.4)) c.loop-q.invariant.6
+    c.loop-q-test.true in
+    record {
+      tabled = (c.requires.tabled.0, a.0, c.loop-q.invariant.5);
+      met_le_n = (c.loop-q.invariant.1, a.1, a.2, c.loop-q.invariant.6.held);
+      n_in_bounds = c.loop-q.invariant.4;
+    }
 
 pub parent_count-m-requires : goal.parent_count-m-requires
 parent_count-m-requires c =
-    let a = climb-asks c.args.rows.now c.args.edges.now c.args.n c.requires.tabled.0 c.args.a c.requires.tabled.1 c.loop-q.q c.loop-q.t.met c.loop-q.t.bare c.loop-q.m c.loop-q.w c.loop-q.invariant.1 (omega (arith, c.loop-q.invariant.4)) c.loop-q.invariant.6 c.loop-q-test.true in
+    let a =
+    climb-asks c.args.rows.now c.args.edges.now c.args.n c.requires.tabled.0 c.args.a c.requires.tabled.1 c.loop-q.q c.loop-q.t.met
+    c.loop-q.t.bare c.loop-q.m c.loop-q.w c.loop-q.invariant.1 (omega (arith, c.loop-q.invariant.4)) c.loop-q.invariant.6
+    c.loop-q-test.true in
     omega (arith, a.0, c.requires.tabled.0.size)
 
 pub overflow_add-m : goal.overflow_add-m
 overflow_add-m c =
-    let a = climb-asks c.args.rows.now c.args.edges.now c.args.n c.requires.tabled.0 c.args.a c.requires.tabled.1 c.loop-q.q c.loop-q.t.met c.loop-q.t.bare c.loop-q.m c.loop-q.w c.loop-q.invariant.1 (omega (arith, c.loop-q.invariant.4)) c.loop-q.invariant.6 c.loop-q-test.true in
+    let a =
+    climb-asks c.args.rows.now c.args.edges.now c.args.n c.requires.tabled.0 c.args.a c.requires.tabled.1 c.loop-q.q c.loop-q.t.met
+    c.loop-q.t.bare c.loop-q.m c.loop-q.w c.loop-q.invariant.1 (omega (arith, c.loop-q.invariant.4)) c.loop-q.invariant.6
+    c.loop-q-test.true in
     omega (arith, a.2, c.parent_count-m.ensures)
 
 pub loop-q-preserved : goal.loop-q-preserved
 loop-q-preserved c =
-    let e = climb-next c.args.rows.now c.args.edges.now c.args.n c.requires.tabled.0 c.args.a c.requires.tabled.1 c.loop-q.q c.loop-q.t.met c.loop-q.t.bare c.loop-q.m c.loop-q.w c.loop-q.invariant.1 (omega (arith, c.loop-q.invariant.4)) c.loop-q.invariant.6 c.loop-q-test.true c.visit-t.result.met c.visit-t.result.bare c.parent_count-m.result _ c.visit-t.auto.w c.parent_count-m.ensures c.loop-q.invariant.5 c.visit-t.ensures in
+    let e =
+    climb-next c.args.rows.now c.args.edges.now c.args.n c.requires.tabled.0 c.args.a c.requires.tabled.1 c.loop-q.q c.loop-q.t.met
+    c.loop-q.t.bare c.loop-q.m c.loop-q.w c.loop-q.invariant.1 (omega (arith, c.loop-q.invariant.4)) c.loop-q.invariant.6
+    c.loop-q-test.true c.visit-t.result.met c.visit-t.result.bare c.parent_count-m.result _ c.visit-t.auto.w c.parent_count-m.ensures
+    c.loop-q.invariant.5 c.visit-t.ensures in
     (e.0, c.visit-t.ensures.1, e.1, c.visit-t.auto.w ∙ c.loop-q.invariant.3, omega (arith, c.visit-t.auto.w, c.loop-q.invariant.4), e.2, e.3)
-
-pub shape_of-w : goal.shape_of-w
-shape_of-w c = c.loop-q.invariant.3 ∙ simp length-set
 
 pub returns : goal.returns
 returns c =
-    climb-end c.args.rows.now c.args.edges.now c.args.n c.requires.tabled.0 c.args.a c.requires.tabled.1 c.loop-q.q c.loop-q.t.met c.loop-q.t.bare c.loop-q.m c.loop-q.w c.loop-q.invariant.1 (omega (arith, c.loop-q.invariant.4)) c.loop-q.invariant.6 c.loop-q-test.false c.loop-q.invariant.2
+    climb-end c.args.rows.now c.args.edges.now c.args.n c.requires.tabled.0 c.args.a c.requires.tabled.1 c.loop-q.q c.loop-q.t.met
+    c.loop-q.t.bare c.loop-q.m c.loop-q.w c.loop-q.invariant.1 (omega (arith, c.loop-q.invariant.4)) c.loop-q.invariant.6
+    c.loop-q-test.false c.loop-q.invariant.2

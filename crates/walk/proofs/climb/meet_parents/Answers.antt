@@ -1,24 +1,24 @@
 -- `meet_parents` meets its contract. The invariant: the parents to come, from what is met so far, give what all of them give (`Passing`).
-use native.Mathlib.Omega.{arith}
-use mathlib.Core.Path.{◌∙◌, refl}
+use mathlib.Core.Path.{◌∙◌}
 use Rattle.words.specs.Table.{ids}
 use Rattle.words.proofs.TableLaws.{length_ids}
 use Rattle.rules.specs.Tables.{held_width}
-use Rattle.walk.proofs.Turns.{passing-start, passing-next, passing-end}
+use Rattle.walk.proofs.Turns.{passing-next, passing-end}
 use borrow.Author.Rules.{rules}
 use Rattle.walk.proofs.climb.meet_parents.Goals as goal
 
-pub loop-j-init : goal.loop-j-init
-loop-j-init c =
-    (search rules, c.requires.met_le_n.0, refl, passing-start _ _ c.args.n c.args.t.met c.args.t.bare c.args.w.now c.requires.met_le_n.2)
-
-pub meet_parent-l-requires : goal.meet_parent-l-requires
-meet_parent-l-requires c = record { held_width_in_bounds = c.requires.held_width_in_bounds; met_le_n = (c.loop-j.invariant.1, omega (arith, c.loop-j.invariant.3.room_for), c.loop-j.invariant.3.held) }
-
 pub loop-j-preserved : goal.loop-j-preserved
-loop-j-preserved c =
-    (search rules, c.meet_parent-l.ensures.1, c.meet_parent-l.auto.w ∙ c.loop-j.invariant.2, passing-next (ids c.args.rows.now held_width c.args.n) c.args.parents.now c.args.n c.args.t.met c.args.t.bare c.args.w.now (length_ids _ _ _) c.requires.held_width_in_bounds.1 c.loop-j.j c.loop-j.l.met c.loop-j.l.bare c.loop-j.w c.loop-j.invariant.3 _ _ _ c.loop-j-test.true c.meet_parent-l.ensures)
+loop-j-preserved c = (
+  search rules,
+  c.meet_parent-l.ensures.1,
+  c.meet_parent-l.auto.w ∙ c.loop-j.invariant.2,
+  passing-next (ids c.args.rows.now held_width c.args.n) c.args.parents.now c.args.n c.args.t.met c.args.t.bare c.args.w.now
+      (length_ids _ _ _) c.requires.held_width_in_bounds.1 c.loop-j.j c.loop-j.l.met c.loop-j.l.bare c.loop-j.w c.loop-j.invariant.3 _ _ _
+      c.loop-j-test.true c.meet_parent-l.ensures,
+)
 
 pub returns : goal.returns
 returns c =
-    passing-end (ids c.args.rows.now held_width c.args.n) c.args.parents.now c.args.n c.args.t.met c.args.t.bare c.args.w.now (length_ids _ _ _) c.requires.held_width_in_bounds.1 c.loop-j.j c.loop-j.l.met c.loop-j.l.bare c.loop-j.w c.loop-j.invariant.3 c.loop-j-test.false c.loop-j.invariant.1
+    passing-end (ids c.args.rows.now held_width c.args.n) c.args.parents.now c.args.n c.args.t.met c.args.t.bare c.args.w.now
+    (length_ids _ _ _) c.requires.held_width_in_bounds.1 c.loop-j.j c.loop-j.l.met c.loop-j.l.bare c.loop-j.w c.loop-j.invariant.3
+    c.loop-j-test.false c.loop-j.invariant.1

@@ -1,5 +1,5 @@
 -- `meet_parents` meets its contract. The invariant: the parents to come, from what is met so far, give what all of them give (`Passing`).
-use Prim.Native.Nat.{◌≤◌, ◌-◌}
+use Prim.Native.Nat.{◌≤◌}
 use mathlib.Core.Path.{◌≡◌}
 use lib.ListN.{length}
 use Rattle.words.specs.Table.{ids}
@@ -9,7 +9,7 @@ use Rattle.walk.proofs.climb.meet_parents.Given as goal
 
 abbrev pub invariant-loop-j : goal.invariant-loop-j
 invariant-loop-j l =
-    (l.j ≤ length l.parents) × (l.l.met ≤ l.n) × (length l.w ≡ length l.initial.w) × Passing (ids l.rows held_width l.n) l.parents l.n l.initial.l.met l.initial.l.bare l.initial.w l.j l.l.met l.l.bare l.w
-
-abbrev pub decreases-loop-j : goal.decreases-loop-j
-decreases-loop-j l = length l.parents - l.j
+    (l.j ≤ length l.parents)
+    × (l.l.met ≤ l.n)
+    × (length l.w ≡ length l.initial.w)
+    × Passing (ids l.rows held_width l.n) l.parents l.n l.initial.l.met l.initial.l.bare l.initial.w l.j l.l.met l.l.bare l.w

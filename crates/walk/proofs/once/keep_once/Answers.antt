@@ -1,20 +1,21 @@
 -- `keep_once` meets its contract. The invariant: the ids kept are those of the rows passed, each once (`Kept`).
-use mathlib.Core.Path.{◌∙◌, refl}
-use Rattle.walk.proofs.Keeping.{kept-start, kept_step, kept-end}
+use mathlib.Core.Path.{◌∙◌}
+use Rattle.walk.proofs.Keeping.{kept_step, kept-end}
 use borrow.Author.Rules.{rules}
 use Rattle.walk.proofs.once.keep_once.Goals as goal
 
-pub loop-i-init : goal.loop-i-init
-loop-i-init c = (search rules, search rules, refl, refl, kept-start c.args.w.now c.args.a c.args.m c.args.b c.requires.0 c.requires.1 c.requires.2)
-
-pub keep_new-k-requires : goal.keep_new-k-requires
-keep_new-k-requires c = (search rules, search rules)
-
 pub loop-i-preserved : goal.loop-i-preserved
 loop-i-preserved c =
-    let e = kept_step c.args.w.now c.args.a c.args.m c.args.b c.requires.0 c.requires.1 c.requires.2 c.loop-i.i c.loop-i.k c.loop-i.w c.loop-i.invariant.2 c.loop-i.invariant.3 c.loop-i.invariant.1 c.loop-i-test.true c.loop-i.invariant.4 _ _ c.keep_new-k.ensures.w_after c.keep_new-k.ensures.value in
+    let e =
+    kept_step c.args.w.now c.args.a c.args.m c.args.b c.requires.0 c.requires.1 c.requires.2 c.loop-i.i c.loop-i.k c.loop-i.w
+    c.loop-i.invariant.2 c.loop-i.invariant.3 c.loop-i.invariant.1 c.loop-i-test.true c.loop-i.invariant.4 _ _
+    c.keep_new-k.ensures.w_after c.keep_new-k.ensures.value in
     (search rules, e.0, c.keep_new-k.auto.w ∙ c.loop-i.invariant.2, e.1, e.2)
 
 pub returns : goal.returns
-returns c =
-    (kept-end c.args.w.now c.args.a c.args.m c.args.b c.requires.0 c.requires.1 c.requires.2 c.loop-i.i c.loop-i.k c.loop-i.w c.loop-i-test.false c.loop-i.invariant.4, search rules, c.loop-i.invariant.3)
+returns c = (
+  kept-end c.args.w.now c.args.a c.args.m c.args.b c.requires.0 c.requires.1 c.requires.2 c.loop-i.i c.loop-i.k c.loop-i.w
+      c.loop-i-test.false c.loop-i.invariant.4,
+  search rules,
+  c.loop-i.invariant.3,
+)

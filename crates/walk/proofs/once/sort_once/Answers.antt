@@ -7,8 +7,11 @@ use Rattle.walk.proofs.once.sort_once.Goals as goal
 
 pub keep_once-requires : goal.keep_once-requires
 keep_once-requires c =
-    let h : c.args.a + 3 * c.args.m ≤ length c.args.w.now = omega (arith, c.requires.0, c.requires.1) in
-    (c.requires.0, omega (arith, c.requires.1, sorted-length c.args.w.now c.args.a c.args.m c.sort3.new.a h c.sort3.auto.a c.sort3.ensures), sorted_rises c.args.w.now c.args.a c.args.m c.sort3.new.a h c.sort3.auto.a c.sort3.ensures)
+    let h : c.args.a + 3 * c.args.m ≤ length c.args.w.now = omega (arith, c.requires.0, c.requires.1) in (
+      c.requires.0,
+      omega (arith, c.requires.1, sorted-length c.args.w.now c.args.a c.args.m c.sort3.new.a h c.sort3.auto.a c.sort3.ensures),
+      sorted_rises c.args.w.now c.args.a c.args.m c.sort3.new.a h c.sort3.auto.a c.sort3.ensures,
+    )
 
 pub returns : goal.returns
 returns c =

@@ -1,5 +1,5 @@
 -- `list_reached` meets its contract. The invariant: of the rows passed, the ids of those that were reached are listed.
-use Prim.Native.Nat.{◌-◌, ◌≤◌}
+use Prim.Native.Nat.{◌≤◌}
 use mathlib.Core.Path.{◌≡◌}
 use lib.ListN.{length, take}
 use Rattle.words.specs.Part.{part}
@@ -10,7 +10,8 @@ use Rattle.walk.proofs.reached.list_reached.Given as goal
 
 abbrev pub invariant-loop-i : goal.invariant-loop-i
 invariant-loop-i l =
-    (l.i ≤ l.n) × (l.k ≤ l.i) × (length l.w ≡ length l.initial.w) × (take l.b l.w ≡ take l.b l.initial.w) × (part l.w l.b l.k ≡ reached (ids l.rows held_width l.n) (marks_in l.n l.initial.w) l.i)
-
-abbrev pub decreases-loop-i : goal.decreases-loop-i
-decreases-loop-i l = l.n - l.i
+    (l.i ≤ l.n)
+    × (l.k ≤ l.i)
+    × (length l.w ≡ length l.initial.w)
+    × (take l.b l.w ≡ take l.b l.initial.w)
+    × (part l.w l.b l.k ≡ reached (ids l.rows held_width l.n) (marks_in l.n l.initial.w) l.i)

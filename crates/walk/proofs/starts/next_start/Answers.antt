@@ -1,9 +1,7 @@
 -- `next_start` meets its contract: the edges of the row at hand are in the table.
-use Prim.Native.Nat.{ℕ, ◌+◌, ◌*◌}
 use native.Mathlib.Omega.{arith}
-use mathlib.Core.Path.{◌∙◌, sym, ap}
-use Rattle.rules.specs.Tables.{held_width, parents_at, children_at}
-use Rattle.rules.proofs.Places.{start-next, start-room}
+use Rattle.rules.specs.Tables.{held_width}
+use Rattle.rules.proofs.Places.{start-room}
 use Rattle.walk.proofs.starts.next_start.Goals as goal
 
 pub overflow_add-result-2 : goal.overflow_add-result-2
@@ -11,7 +9,3 @@ overflow_add-result-2 c = omega (arith, c.requires.3, start-room held_width c.ar
 
 pub overflow_add-result-4 : goal.overflow_add-result-4
 overflow_add-result-4 c = omega (arith, c.requires.3, start-room held_width c.args.rows.now c.args.n c.args.i c.args.g c.requires.2 c.requires.0)
-
-pub returns : goal.returns
-returns c =
-    ap (λ (k : ℕ). k + parents_at c.args.rows.now (c.args.i * held_width) + children_at c.args.rows.now (c.args.i * held_width)) c.requires.3 ∙ sym (start-next held_width c.args.rows.now c.args.i)

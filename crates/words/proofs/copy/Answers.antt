@@ -1,8 +1,0 @@
--- `words::copy` meets its contract: each need is arithmetic, a law that is imported, or what a callee promised.
-use mathlib.Core.Path.{◌∙◌}
-use Rattle.words.proofs.PartLaws.{put_all}
-use Rattle.words.proofs.copy.Goals as goal
-
-pub returns : goal.returns
-returns c =
-    c.copy_into.ensures ∙ put_all c.args.dst.now c.args.src.now c.requires
