@@ -52,3 +52,9 @@ rows-ascend index table n t size is = keyed-ascend table row_width n (segment_ke
 pub places-ascend : (index places : List ℕ) (m : ℕ) → NoTwins places place_width m → length index ≡ 3 * m → rows index ≡ placement_index places m → Ascends (ids index 3 m)
 unfolding placement_index
 places-ascend index places m t size is = keyed-ascend places place_width m (placement_keys places m 0) (places-keyed places m) t index size is
+
+-- a table whose ids ascend, as a held table's do, has no twins
+pub ascends-once : (table : List ℕ) (width n : ℕ) → Ascends (ids table width n) → NoTwins table width n
+ascends-once table width n asc i j h k e =
+    let a : get_or (ids table width n) i 0 < get_or (ids table width n) j 0 = asc i j h (omega (arith, length_ids table width n)) in
+    omega (arith, ids_at table width n i (omega arith), ids_at table width n j k)

@@ -6,8 +6,8 @@ use mathlib.Core.Logic.{⊎_elim}
 use mathlib.Core.List.{List, [], ◌∷◌}
 use native.Mathlib.Omega.{arith}
 use native.Mathlib.Nat.{div-add-mod', div-lt_iff_lt-mul, pow-suc}
-use lib.ListN.{length, drop, set, length-set, drop_of_length-le}
-use lib.Seq.{drop-cons, get_or-set_same, drop-set-lt}
+use lib.ListN.{length, take, drop, length-drop, set, length-set, drop_of_length-le}
+use lib.Seq.{take_all, drop-cons, get_or-set_same, drop-set-lt}
 use borrow.Author.Tests.{lt-ltb, le-ltb, lt-leb, le-leb}
 use Rattle.lists.proofs.Cases.{lt-or-le}
 use Rattle.texts.specs.Decimal.{glyph, digits_before, decimal, signed}
@@ -36,6 +36,10 @@ digit-last space (suc k) n h p l =
 pub none_yet : (space : List ℕ) (n : ℕ) → length space ≡ 20 → digits_before 20 n (drop 20 space) ≡ decimal n
 unfolding decimal
 none_yet space n l = ap (digits_before 20 n) (drop_of_length-le space {i = 20} (omega arith))
+
+-- the digits as the part of the space that is lent on
+pub spelled : (space ds : List ℕ) (from : ℕ) → length space ≡ 20 → drop from space ≡ ds → take (20 - from) (drop from space) ≡ ds
+spelled space ds from l e = take_all (20 - from) (drop from space) (rw (length-drop from space) (omega arith)) ∙ e
 
 -- ---- the sign
 
@@ -84,3 +88,8 @@ read-digits (suc k) n ds h =
     (read-digits k (n / 10) (glyph (n % 10) ∷ ds) (tenth-below k n h)
     ∙ ap (λ (m : ℕ). read_on m ds) (omega (arith, div-add-mod' n 10))))
     (lt-or-le n 10)
+
+-- any word of 64 bits is below this
+pub read-decimal : (n : ℕ) → n < 10 ^ 20 → read_on 0 (decimal n) ≡ n
+unfolding decimal
+read-decimal n h = read-digits 20 n [] h

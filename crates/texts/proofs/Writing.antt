@@ -8,7 +8,7 @@ use native.Mathlib.Omega.{arith}
 use native.Mathlib.Nat.{min-eq_left, min-eq_right}
 use native.Mathlib.Numerals.{add-one}
 use lib.ListN.{length, get_or, set, take, length-append}
-use lib.Seq.{length-sets, set_out, take-suc}
+use lib.Seq.{length-sets, sets-eq, set_out, take_at, take-suc}
 use Rattle.lists.proofs.Cases.{lt-or-le}
 use Rattle.texts.specs.Written.{written, Wrote}
 
@@ -43,6 +43,9 @@ kept {area} {at} {xs} w = ap length w.holds ∙ length-sets area at xs
 pub nothing : (area : List ℕ) (at p : ℕ) → p ≡ min at (length area) → Wrote area at [] area p
 nothing area at p e = record { holds = refl; stands = e ∙ ap (λ (k : ℕ). min k (length area)) (omega arith) }
 
+pub byte_past : (area : List ℕ) (at b : ℕ) → length area ≤ at → Wrote area at (b ∷ []) area (length area)
+byte_past area at b h = record { holds = sym (set_out area at b h); stands = omega arith }
+
 pub on : {area : List ℕ} {at : ℕ} {xs after : List ℕ} {p : ℕ} {ys last : List ℕ} {q : ℕ}
     → Wrote area at xs after p → Wrote after p ys last q → Wrote area at (xs ++ ys) last q
 on {area} {at} {xs} {after} {p} {ys} {last} {q} w v =
@@ -63,3 +66,18 @@ said e w = rw e at w
 pub byte-on : (bytes : List ℕ) (i : ℕ) {area : List ℕ} {at : ℕ} {after : List ℕ} {p : ℕ} {last : List ℕ} {q : ℕ} → i < length bytes
     → Wrote area at (take i bytes) after p → Wrote after p (get_or bytes i 0 ∷ []) last q → Wrote area at (take (i + 1) bytes) last q
 byte-on bytes i h w v = rw (add-one, take-suc bytes i 0) (on w v)
+
+-- what stands at the front of an area that had room
+pub front-is : (area bytes : List ℕ) → length bytes ≤ length area → take (length bytes) (written area 0 bytes) ≡ bytes
+front-is area bytes h = ap (take (length bytes)) (sets-eq bytes area 0 (omega arith)) ∙ take_at bytes _ _ refl
+
+-- a line written from the front of an area that has room for it: it stands there whole
+pub whole : {area bytes after : List ℕ} {r : ℕ} → Wrote area 0 bytes after r → length bytes ≤ length area
+    → (r ≡ length bytes) × (take r after ≡ bytes)
+whole {area} {bytes} {after} {r} w h =
+    let e : r ≡ length bytes = omega (arith, w.stands) in
+    (e, ap (λ (k : ℕ). take k after) e ∙ ap (take (length bytes)) w.holds ∙ front-is area bytes h)
+
+-- two answers that satisfy the promise are equal, and so are the areas
+pub unique : {area : List ℕ} {at : ℕ} {bytes x : List ℕ} {p : ℕ} {y : List ℕ} {q : ℕ} → Wrote area at bytes x p → Wrote area at bytes y q → (x ≡ y) × (p ≡ q)
+unique w v = (w.holds ∙ sym v.holds, w.stands ∙ sym v.stands)

@@ -8,7 +8,7 @@ pub struct Layout<'a> {
     pub places: &'a [u64],
 }
 
-// What an accepted layout fills: held rows of 15 words, held edge words, and the order, a row number a word.
+// What an accepted layout fills: held rows of 15 words, held edge words, and the order, an id a word, parents before children.
 #[derive(Drop)]
 pub struct Areas<'a> {
     pub held: &'a mut [u64],
@@ -16,7 +16,7 @@ pub struct Areas<'a> {
     pub order: &'a mut [u64],
 }
 
-// The lists of a delta: ids that came, ids that went, and pairs of parent and child that split and that merged.
+// The lists of a delta: ids that came, ids that went, split pairs (parent, child) and merge pairs (child, parent).
 #[derive(Drop)]
 pub struct Changes<'a> {
     pub added: &'a mut [u64],

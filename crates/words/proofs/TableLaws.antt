@@ -4,7 +4,7 @@
 --     at-is, nothing_is     what a caller learns
 --     hit, has-hit          a list has what a search finds
 --     unsearched, searched  a search that is made only where a test fails
---     row-found             the same of the words of a table: what a caller of `find_row` cites
+--     row-found, row-missing     the same of the words of a table: what a caller of `find_row` cites
 --     word_in, field_in     a word of a row is in the table
 --     asc-false, asc-is     the test of the order, and what it tells
 use mathlib.Core.Bool.{Bool, true, false, cond, ◌||◌, and-false}
@@ -143,3 +143,6 @@ row-found t w n x r e =
     let a = at-is (ids t w n) x r e in
     let h : r < n = omega (arith, a.0, length_ids t w n) in
     (h, sym (ids_at t w n r h) ∙ a.1)
+
+pub row-missing : (t : List ℕ) (w n x : ℕ) → where_is (ids t w n) x ≡ Nothing → (r : ℕ) → r < n → get_or t (r * w) 0 ≡ x → ⊥
+row-missing t w n x e r h q = nothing_is (ids t w n) x e r (rw length_ids h) (ids_at t w n r h ∙ q)
