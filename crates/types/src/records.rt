@@ -3,11 +3,11 @@
 use answers::Updated;
 
 // A segment, whatever row it stands in.
-#[derive(Clone, Copy)]
+#[derive(Clone, Copy, PartialEq, Eq, Debug)]
 pub struct SegmentId(pub u64);
 
 // A row of a table, whatever segment stands there.
-#[derive(Clone, Copy)]
+#[derive(Clone, Copy, PartialEq, Eq, Debug)]
 pub struct RowIndex(pub usize);
 
 // Which edges of a segment.
@@ -18,14 +18,14 @@ pub enum Side {
 }
 
 // An optional field of a table: a flag (0 absent, 1 present) and a word, which is unread when absent.
-#[derive(Clone, Copy)]
+#[derive(Clone, Copy, PartialEq, Eq, Debug)]
 pub struct Optional {
     pub flag: u64,
     pub word: u64,
 }
 
 // A segment row of 11 words, by value.
-#[derive(Clone, Copy)]
+#[derive(Clone, Copy, PartialEq, Eq, Debug)]
 pub struct SegmentInfo {
     pub id: SegmentId,
     pub start: u64,
@@ -39,7 +39,7 @@ pub struct SegmentInfo {
 }
 
 // A placement row of 4 words, by value.
-#[derive(Clone, Copy)]
+#[derive(Clone, Copy, PartialEq, Eq, Debug)]
 pub struct Broker {
     pub id: SegmentId,
     pub url: u64,
@@ -47,7 +47,7 @@ pub struct Broker {
 }
 
 // A held row of 15 words, by value: absent optional words are 0.
-#[derive(Clone, Copy)]
+#[derive(Clone, Copy, PartialEq, Eq, Debug)]
 pub struct SegmentDescriptor {
     pub info: SegmentInfo,
     pub url: Optional,
@@ -55,7 +55,7 @@ pub struct SegmentDescriptor {
 }
 
 // Parent-before-child policy of an ordering query.
-#[derive(Clone, Copy)]
+#[derive(Clone, Copy, PartialEq, Eq, Debug)]
 pub enum OrderingMode {
     // every ancestor must have been owned and completed here
     Strict,
@@ -65,7 +65,7 @@ pub enum OrderingMode {
 
 // One assigned segment, with the range that the assignment gives it.
 #[repr(C)]
-#[derive(Clone, Copy)]
+#[derive(Clone, Copy, PartialEq, Eq, Debug)]
 pub struct Assigned {
     pub id: u64,
     pub start: u32,
@@ -74,7 +74,7 @@ pub struct Assigned {
 
 // A text that may be absent.
 #[repr(C)]
-#[derive(Clone, Copy)]
+#[derive(Clone, Copy, PartialEq, Eq, Debug)]
 pub struct Name {
     pub present: bool,
     pub text: u64,
@@ -82,7 +82,7 @@ pub struct Name {
 
 // `DagWatchSession` of dag_watch.rs: what is known of one watched topic, but for the held tables, which are lent.
 #[repr(C)]
-#[derive(Clone, Copy)]
+#[derive(Clone, Copy, PartialEq, Eq, Debug)]
 pub struct Session {
     pub id: u64,
     pub held: bool,
@@ -97,7 +97,7 @@ pub struct Session {
 
 // An update of the broker, but for its tables, which are lent. `code` is the signed 32-bit error code, as its 32 bits.
 #[repr(C)]
-#[derive(Clone, Copy)]
+#[derive(Clone, Copy, PartialEq, Eq, Debug)]
 pub struct Update {
     pub session: u64,
     pub layout: bool,
