@@ -23,7 +23,7 @@ fn pairs_before(pairs: &[u64], k: usize, x: u64, y: u64) -> usize
 {
     let mut lo = 0;
     let mut hi = k;
-    // Stays a `while`: a search by halving; no method of std looks for a pair in rows of three words, and chunks of them say nothing of `rows`.
+    // A `while`: halving, by hand, since `partition_point` of std takes a slice of rows, and these are rows of three words in a slice of words.
     while lo < hi {
         let mid = lo + (hi - lo) / 2;
         if is_before(pairs, mid, x, y) {

@@ -118,7 +118,8 @@ pub(crate) fn has_wrong_counts(rows: &[u64], n: usize, len: usize) -> bool
     left != 0
 }
 
-// Both questions of n held rows in one pass, since many rows cost what it takes to fetch them: a bad one, or counts that don't make `len` words.
+// Both questions of n held rows: a bad one, or counts that don't make `len` words. Not the two scans above one after the other: many rows cost
+// what it takes to fetch them, so they are read in one pass.
 #[tactic(auto, using(crate::proofs::Counts::counts_over, crate::proofs::Counts::counts_end))]
 pub(crate) fn has_bad_next_or_counts(rows: &[u64], n: usize, len: usize) -> bool
     requires { n * held_width ≤ length rows.now }

@@ -17,7 +17,8 @@ pub enum Side {
     Children,
 }
 
-// An optional field of a table: a flag (0 absent, 1 present) and a word, which is unread when absent.
+// An optional field of a table: a flag (0 absent, 1 present) and a word, which is unread when absent. Not an `Option`: a flag of 2 is refused,
+// and so must be told.
 #[derive(Clone, Copy, PartialEq, Eq, Debug)]
 pub struct Optional {
     pub flag: u64,
@@ -72,7 +73,7 @@ pub struct Assigned {
     pub end: u32,
 }
 
-// A text that may be absent.
+// A text that may be absent. A flag beside a value, and not an `Option`: C has this layout, as it has that of `Session` and `Update`.
 #[repr(C)]
 #[derive(Clone, Copy, PartialEq, Eq, Debug)]
 pub struct Name {
