@@ -6,7 +6,6 @@ use native.Mathlib.Nat.{sub-zero}
 use native.Mathlib.Numerals.{add-one}
 use native.Mathlib.Omega.{arith}
 use mathlib.Core.Path.{◌≡◌, refl, sym, ap, ◌∙◌}
-use mathlib.Core.Bool.{Bool, true, false}
 use mathlib.Core.Option.{some}
 use mathlib.Core.List.{List, [], ◌∷◌}
 use mir.Val.{Fits}
@@ -18,56 +17,40 @@ use Rattle.words.specs.Table.{ids, where_is, Found, At, Nothing}
 use Rattle.words.proofs.TableLaws as Rows
 use Rattle.answers.specs.declared.Refusal.{Refusal}
 use Rattle.answers.specs.Answer.{Judged, Accepted, Refused}
+use Rattle.types.specs.declared.records.Side.{Side}
+use Rattle.types.specs.declared.records.Side.TheVariants.{Parents, Children}
 use Rattle.rules.specs.Model.{Segment, lookup}
 use Rattle.rules.specs.Tables.{held_width, parents_at, children_at, start_of, segments_from, held_segments}
 use Rattle.rules.specs.Edges.{parent_found, parent_known, parent_rule, child_found, child_known, child_rule, parents_rule, children_rule, links_rule, links_from}
 use Rattle.rules.proofs.Places.{start-next, start-room}
 use Rattle.tabled.specs.Image.{Tabled, segment_in, segment_found}
 use Rattle.tabled.proofs.ByRow.{lookup-found}
-use Rattle.lookups.specs.Sides.{side}
-use Rattle.edges.specs.Links.{Tells, id_at, parent_at, parent_where, child_at, child_where, edge_where, each, row_links, rows_links}
-use Rattle.answers.specs.declared.Refusal.TheVariants.{DanglingParent, DanglingChild}
+use Rattle.lookups.specs.Sides.{side_of}
+use Rattle.edges.specs.Links.{Tells, id_at, dangling, edge_at, edge_where, each, row_links, rows_links}
 
 -- ---- one edge: what was found
 
 pub row_below : (table : List ℕ) (n x r : ℕ) (f : Found) → f ≡ where_is (ids table held_width n) x → f ≡ At r → r < n
 row_below table n x r f said told = (Rows.row-found table held_width n x r (sym said ∙ told)).0
 
-module _ (table pairs : List ℕ) (n i x : ℕ) (f : Found) (said : f ≡ where_is (ids table held_width n) x) (v : Judged) where
-  pub parent-at : (r : ℕ) → f ≡ At r → v ≡ parent_at table pairs i r → v ≡ parent_where table pairs i x (where_is (ids table held_width n) x)
-  unfolding parent_where
-  parent-at r told e = rw (← said, told, e)
+module _ (side : Side) (table pairs : List ℕ) (n i x : ℕ) (f : Found) (said : f ≡ where_is (ids table held_width n) x) where
+  pub edge_told : (r : ℕ) (v : Judged) → f ≡ At r → v ≡ edge_at side table pairs i r → v ≡ edge_where side table pairs i x (where_is (ids table held_width n) x)
+  edge_told r v told e = rw (← said, told, e)
 
-  pub parent-nowhere : f ≡ Nothing → v ≡ Refused (DanglingParent (id_at table i) x) → v ≡ parent_where table pairs i x (where_is (ids table held_width n) x)
-  unfolding parent_where
-  parent-nowhere told e = rw (← said, told, e)
-
-  pub child-at : (r : ℕ) → f ≡ At r → v ≡ child_at table pairs i r → v ≡ child_where table pairs i x (where_is (ids table held_width n) x)
-  unfolding child_where
-  child-at r told e = rw (← said, told, e)
-
-  pub child-nowhere : f ≡ Nothing → v ≡ Refused (DanglingChild (id_at table i) x) → v ≡ child_where table pairs i x (where_is (ids table held_width n) x)
-  unfolding child_where
-  child-nowhere told e = rw (← said, told, e)
-
--- which side it is
-pub parent-edge : (b : Bool) (table pairs : List ℕ) (i x : ℕ) (f : Found) (v : Judged) → b ≡ true → v ≡ parent_where table pairs i x f → v ≡ edge_where b table pairs i x f
-parent-edge b table pairs i x f v e k = rw (e, k)
-
-pub child-edge : (b : Bool) (table pairs : List ℕ) (i x : ℕ) (f : Found) (v : Judged) → b ≡ false → v ≡ child_where table pairs i x f → v ≡ edge_where b table pairs i x f
-child-edge b table pairs i x f v e k = rw (e, k)
+  pub edge_nowhere : (v : Refusal) → f ≡ Nothing → v ≡ dangling side (id_at table i) x → Refused v ≡ edge_where side table pairs i x (where_is (ids table held_width n) x)
+  edge_nowhere v told e = rw (← said, told, e)
 
 -- ---- the loop over one list
 
 module _ (rule : ℕ → Judged) (l : List ℕ) (i : ℕ) (rest : each rule l ≡ each rule (drop i l)) where
-  pub each-end : length l ≤ i → Accepted ≡ each rule l
+  pub each_end : length l ≤ i → Accepted ≡ each rule l
   unfolding each
-  each-end h = rw (rest, drop_of_length-le l h)
+  each_end h = rw (rest, drop_of_length-le l h)
 
   module _ (below : i < length l) (x : Judged) (said : x ≡ rule (get_or l i 0)) where
-    pub each-refused : (r : Refusal) → x ≡ Refused r → x ≡ each rule l
+    pub each_refused : (r : Refusal) → x ≡ Refused r → x ≡ each rule l
     unfolding each
-    each-refused r told = rw (rest, drop-cons l i 0 below, ← said, told)
+    each_refused r told = rw (rest, drop-cons l i 0 below, ← said, told)
 
     pub each_next : x ≡ Accepted → each rule l ≡ each rule (drop (i + 1) l)
     unfolding each
@@ -110,7 +93,7 @@ module _ (table edges cpairs ppairs : List ℕ) (n : ℕ) where
 
 -- ---- the rule book
 
-module _ (table edges : List ℕ) (n : ℕ) (t : Tabled table edges n) (cpairs ppairs : List ℕ) (kc kp : ℕ) (cs : Tells (side false) (held_segments table edges n) cpairs kc) (ps : Tells (side true) (held_segments table edges n) ppairs kp) where
+module _ (table edges : List ℕ) (n : ℕ) (t : Tabled table edges n) (cpairs ppairs : List ℕ) (kc kp : ℕ) (cs : Tells (side_of Children) (held_segments table edges n) cpairs kc) (ps : Tells (side_of Parents) (held_segments table edges n) ppairs kp) where
   abbrev S : List Segment
   S = held_segments table edges n
 
@@ -120,19 +103,19 @@ module _ (table edges : List ℕ) (n : ℕ) (t : Tabled table edges n) (cpairs p
       let q : id_at table r ≡ x = (Rows.row-found table held_width n x r e).1 in
       ap (λ (k : ℕ). lookup k S) q ∙ (lookup-found table edges x n ∙ ap (segment_found table edges) e)
 
-  parent-told : (i x : ℕ) → parent_where table cpairs i x (where_is (ids table held_width n) x) ≡ parent_rule S (segment_in table edges i) x
-  unfolding parent_rule parent_where parent_known parent_at parent_found
+  parent-told : (i x : ℕ) → edge_where Parents table cpairs i x (where_is (ids table held_width n) x) ≡ parent_rule S (segment_in table edges i) x
+  unfolding parent_rule parent_known edge_at parent_found
   parent-told i x = go (where_is (ids table held_width n) x) refl ∙ ap (parent_known (segment_in table edges i) x) (sym (lookup-found table edges x n))
     where
-      go : (f : Found) → where_is (ids table held_width n) x ≡ f → parent_where table cpairs i x f ≡ parent_known (segment_in table edges i) x (segment_found table edges f)
+      go : (f : Found) → where_is (ids table held_width n) x ≡ f → edge_where Parents table cpairs i x f ≡ parent_known (segment_in table edges i) x (segment_found table edges f)
       go Nothing e = refl
       go (At r) e = rw (cs.tells (id_at table r) (id_at table i) (segment_in table edges r) (at_row x r e))
 
-  child-told : (i x : ℕ) → child_where table ppairs i x (where_is (ids table held_width n) x) ≡ child_rule S (segment_in table edges i) x
-  unfolding child_rule child_where child_known child_at child_found
+  child-told : (i x : ℕ) → edge_where Children table ppairs i x (where_is (ids table held_width n) x) ≡ child_rule S (segment_in table edges i) x
+  unfolding child_rule child_known edge_at child_found
   child-told i x = go (where_is (ids table held_width n) x) refl ∙ ap (child_known (segment_in table edges i) x) (sym (lookup-found table edges x n))
     where
-      go : (f : Found) → where_is (ids table held_width n) x ≡ f → child_where table ppairs i x f ≡ child_known (segment_in table edges i) x (segment_found table edges f)
+      go : (f : Found) → where_is (ids table held_width n) x ≡ f → edge_where Children table ppairs i x f ≡ child_known (segment_in table edges i) x (segment_found table edges f)
       go Nothing e = refl
       go (At r) e = rw (ps.tells (id_at table r) (id_at table i) (segment_in table edges r) (at_row x r e))
 

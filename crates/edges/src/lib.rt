@@ -2,19 +2,49 @@
 // in an index of the other side's lists.
 #![tactic(auto)]
 
-ghost use Rattle.std.specs.Prelude.{◌≡◌, true, false, not, ◌+◌, ◌*◌, ◌<◌, ◌≤◌, length};
+ghost use Rattle.std.specs.Prelude.{◌≡◌, ◌+◌, ◌*◌, ◌<◌, ◌≤◌, length};
 ghost use Rattle.words.specs.Table.{ids, where_is, Ascends};
 ghost use Rattle.sorts.specs.Rows.{rows};
-ghost use Rattle.lookups.specs.PairSearch.{has_pair, Ordered};
+ghost use Rattle.lookups.specs.PairSearch.{Ordered};
 ghost use Rattle.rules.specs.Tables.{held_width, optional, parents_at, children_at, held_segments};
 ghost use Rattle.rules.specs.Edges.{epoch_rule, links_from};
 ghost use Rattle.tabled.specs.Image.{Tabled};
-ghost use Rattle.lookups.specs.Sides.{side};
-ghost use Rattle.edges.specs.Links.{Tells, parent_at, parent_where, child_at, child_where, edge_where, edges_all, row_links};
+ghost use Rattle.types.specs.declared.records.Side.TheVariants.{Parents, Children};
+ghost use Rattle.lookups.specs.Sides.{side_of};
+ghost use Rattle.edges.specs.Links.{Tells, dangling, unanswered, epochs_at, edge_at, edge_where, edges_all, row_links};
 
 use answers::Refusal;
+use lookups::pairs::has_pair;
+use types::records::Side;
+
+// 24 or 27: the segment lists `other`, and no row has that id.
+fn dangling(side: Side, id: u64, other: u64) -> Refusal
+    ensures { result ≡ dangling side id other }
+{
+    match side {
+        Side::Parents => Refusal::DanglingParent { id, parent: other },
+        Side::Children => Refusal::DanglingChild { id, child: other },
+    }
+}
+
+// 25: the segment lists `other`, which does not list the segment.
+fn unanswered(side: Side, id: u64, other: u64) -> Refusal
+    ensures { result ≡ unanswered side id other }
+{
+    match side {
+        Side::Parents => Refusal::NonReciprocalEdge {
+            parent: other,
+            child: id,
+        },
+        Side::Children => Refusal::NonReciprocalEdge {
+            parent: id,
+            child: other,
+        },
+    }
+}
 
 // 26: the parent's seal must equal the child's creation.
+#[tactic(auto, unfolding(rules::specs::Edges::epoch_rule))]
 fn judge_epochs(
     parent: u64,
     child: u64,
@@ -43,17 +73,29 @@ fn judge_epochs(
     Ok(())
 }
 
-// Does the index lack the pair?
-fn lacks_pair(pairs: &[u64], k: usize, x: u64, y: u64) -> bool
-    requires pairs_len { length pairs.now ≡ 3 * k }
-    requires ordered { Ordered (rows pairs.now) }
-    ensures { result ≡ not (has_pair x y (rows pairs.now)) }
+// 26 for the other end of an edge of row i, which stands in row r: it is asked where row r is the parent.
+fn judge_epochs_at(side: Side, table: &[u64], n: usize, i: usize, r: usize) -> Result<(), Refusal>
+    requires rows_in_table { n * held_width ≤ length table.now }
+    requires both_rows { (i < n) × (r < n) }
+    ensures { result ≡ epochs_at side table.now i r }
 {
-    !lookups::pairs::has_pair(pairs, k, x, y)
+    match side {
+        Side::Parents => {
+            let parent = r * rules::HELD;
+            let child = i * rules::HELD;
+            let flag = table[parent + rules::SEALED];
+            let sealed = table[parent + rules::SEALED + 1];
+            let created = table[child + rules::CREATED];
+            judge_epochs(table[parent], table[child], flag, sealed, created)
+        }
+        Side::Children => Ok(()),
+    }
 }
 
-// 25, 26: the parent of row i that stands in row r.
-fn judge_parent_at(
+// 25, 26: the other end of an edge of row i, which stands in row r.
+#[tactic(auto, unfolding(crate::specs::Links::edge_at))]
+fn judge_found(
+    side: Side,
     table: &[u64],
     n: usize,
     pairs: &[u64],
@@ -61,121 +103,46 @@ fn judge_parent_at(
     i: usize,
     r: usize,
 ) -> Result<(), Refusal>
-    requires held_width_in_bounds { n * held_width ≤ length table.now }
-    requires i_lt_n { (i < n) × (r < n) }
+    requires rows_in_table { n * held_width ≤ length table.now }
+    requires both_rows { (i < n) × (r < n) }
     requires pairs_len { length pairs.now ≡ 3 * k }
     requires ordered { Ordered (rows pairs.now) }
-    ensures { result ≡ parent_at table.now pairs.now i r }
+    ensures { result ≡ edge_at side table.now pairs.now i r }
 {
-    let p = r * rules::HELD;
-    let c = i * rules::HELD;
-    let parent = table[p];
-    let child = table[c];
-    if lacks_pair(pairs, k, parent, child) {
-        return Err(Refusal::NonReciprocalEdge { parent, child });
+    let id = table[i * rules::HELD];
+    let other = table[r * rules::HELD];
+    if !has_pair(pairs, k, other, id) {
+        return Err(unanswered(side, id, other));
     }
-    judge_epochs(parent, child, table[p + 5], table[p + 6], table[c + 4])
-}
-
-// 24 to 26: one parent of row i.
-fn judge_parent(
-    table: &[u64],
-    n: usize,
-    pairs: &[u64],
-    k: usize,
-    i: usize,
-    parent: u64,
-) -> Result<(), Refusal>
-    requires held_width_in_bounds { n * held_width ≤ length table.now }
-    requires i_lt_n { i < n }
-    requires ascends { Ascends (ids table.now held_width n) }
-    requires pairs_len { length pairs.now ≡ 3 * k }
-    requires ordered { Ordered (rows pairs.now) }
-    ensures { result ≡ parent_where table.now pairs.now i parent (where_is (ids table.now held_width n) parent) }
-{
-    match words::find_row(table, rules::HELD, n, parent) {
-        Some(r) => judge_parent_at(table, n, pairs, k, i, r),
-        None => {
-            let id = table[i * rules::HELD];
-            Err(Refusal::DanglingParent { id, parent })
-        }
-    }
-}
-
-// 25: the child of row i that stands in row r.
-fn judge_child_at(
-    table: &[u64],
-    n: usize,
-    pairs: &[u64],
-    k: usize,
-    i: usize,
-    r: usize,
-) -> Result<(), Refusal>
-    requires held_width_in_bounds { n * held_width ≤ length table.now }
-    requires i_lt_n { (i < n) × (r < n) }
-    requires pairs_len { length pairs.now ≡ 3 * k }
-    requires ordered { Ordered (rows pairs.now) }
-    ensures { result ≡ child_at table.now pairs.now i r }
-{
-    let child = table[r * rules::HELD];
-    let parent = table[i * rules::HELD];
-    if lacks_pair(pairs, k, child, parent) {
-        return Err(Refusal::NonReciprocalEdge { parent, child });
-    }
-    Ok(())
-}
-
-// 27, 25: one child of row i.
-fn judge_child(
-    table: &[u64],
-    n: usize,
-    pairs: &[u64],
-    k: usize,
-    i: usize,
-    child: u64,
-) -> Result<(), Refusal>
-    requires held_width_in_bounds { n * held_width ≤ length table.now }
-    requires i_lt_n { i < n }
-    requires ascends { Ascends (ids table.now held_width n) }
-    requires pairs_len { length pairs.now ≡ 3 * k }
-    requires ordered { Ordered (rows pairs.now) }
-    ensures { result ≡ child_where table.now pairs.now i child (where_is (ids table.now held_width n) child) }
-{
-    match words::find_row(table, rules::HELD, n, child) {
-        Some(r) => judge_child_at(table, n, pairs, k, i, r),
-        None => {
-            let id = table[i * rules::HELD];
-            Err(Refusal::DanglingChild { id, child })
-        }
-    }
+    judge_epochs_at(side, table, n, i, r)
 }
 
 // One edge of row i: a parent (24 to 26) or a child (27, 25).
 fn judge_edge(
-    parents: bool,
+    side: Side,
     table: &[u64],
     n: usize,
     pairs: &[u64],
     k: usize,
     i: usize,
-    x: u64,
+    other: u64,
 ) -> Result<(), Refusal>
-    requires held_width_in_bounds { n * held_width ≤ length table.now }
+    requires rows_in_table { n * held_width ≤ length table.now }
     requires i_lt_n { i < n }
     requires ascends { Ascends (ids table.now held_width n) }
     requires pairs_len { length pairs.now ≡ 3 * k }
     requires ordered { Ordered (rows pairs.now) }
-    ensures { result ≡ edge_where parents table.now pairs.now i x (where_is (ids table.now held_width n) x) }
+    ensures { result ≡ edge_where side table.now pairs.now i other (where_is (ids table.now held_width n) other) }
 {
-    if parents {
-        return judge_parent(table, n, pairs, k, i, x);
+    match words::find_row(table, rules::HELD, n, other) {
+        Some(r) => judge_found(side, table, n, pairs, k, i, r),
+        None => Err(dangling(side, table[i * rules::HELD], other)),
     }
-    judge_child(table, n, pairs, k, i, x)
 }
 
 // The parents or the children of row i, in list order.
 fn judge_list(
-    parents: bool,
+    side: Side,
     table: &[u64],
     n: usize,
     pairs: &[u64],
@@ -183,17 +150,15 @@ fn judge_list(
     i: usize,
     list: &[u64],
 ) -> Result<(), Refusal>
-    requires held_width_in_bounds { n * held_width ≤ length table.now }
+    requires rows_in_table { n * held_width ≤ length table.now }
     requires i_lt_n { i < n }
     requires ascends { Ascends (ids table.now held_width n) }
     requires pairs_len { length pairs.now ≡ 3 * k }
     requires ordered { Ordered (rows pairs.now) }
-    ensures { result ≡ edges_all parents table.now n pairs.now i list.now }
+    ensures { result ≡ edges_all side table.now n pairs.now i list.now }
 {
-    let mut j = 0;
-    while j < list.len() {
-        judge_edge(parents, table, n, pairs, k, i, list[j])?;
-        j += 1;
+    for &other in list {
+        judge_edge(side, table, n, pairs, k, i, other)?;
     }
     Ok(())
 }
@@ -211,19 +176,19 @@ fn judge_row(
     i: usize,
     at: usize,
 ) -> Result<(), Refusal>
-    requires held_width_in_bounds { n * held_width ≤ length table.now }
+    requires rows_in_table { n * held_width ≤ length table.now }
     requires i_lt_n { i < n }
     requires ascends { Ascends (ids table.now held_width n) }
     requires edges_in_table { at + parents_at table.now (i * held_width) + children_at table.now (i * held_width) ≤ length edges.now }
-    requires cpairs_len { (length cpairs.now ≡ 3 * kc) × Ordered (rows cpairs.now) }
-    requires ppairs_len { (length ppairs.now ≡ 3 * kp) × Ordered (rows ppairs.now) }
+    requires children_paired { (length cpairs.now ≡ 3 * kc) × Ordered (rows cpairs.now) }
+    requires parents_paired { (length ppairs.now ≡ 3 * kp) × Ordered (rows ppairs.now) }
     ensures { result ≡ row_links table.now edges.now n cpairs.now ppairs.now i at }
 {
     let w = i * rules::HELD;
-    let mid = at + table[w + 9] as usize;
-    let end = mid + table[w + 10] as usize;
-    judge_list(true, table, n, cpairs, kc, i, &edges[at..mid])?;
-    judge_list(false, table, n, ppairs, kp, i, &edges[mid..end])
+    let mid = at + table[w + rules::PARENTS] as usize;
+    let end = mid + table[w + rules::CHILDREN] as usize;
+    judge_list(Side::Parents, table, n, cpairs, kc, i, &edges[at..mid])?;
+    judge_list(Side::Children, table, n, ppairs, kp, i, &edges[mid..end])
 }
 
 // 24 to 27 over a table ascending by id. The indexes tell of each segment's children and of its parents.
@@ -237,17 +202,15 @@ pub fn judge_links(
     kp: usize,
 ) -> Result<(), Refusal>
     requires tabled { Tabled table.now edges.now n }
-    requires tells { Tells (side false) (held_segments table.now edges.now n) cpairs.now kc }
-    requires tells_2 { Tells (side true) (held_segments table.now edges.now n) ppairs.now kp }
+    requires children_told { Tells (side_of Children) (held_segments table.now edges.now n) cpairs.now kc }
+    requires parents_told { Tells (side_of Parents) (held_segments table.now edges.now n) ppairs.now kp }
     ensures { result ≡ links_from (held_segments table.now edges.now n) (held_segments table.now edges.now n) }
 {
-    let mut i = 0;
     let mut at = 0;
-    while i < n {
+    for i in 0..n {
         judge_row(table, edges, n, cpairs, kc, ppairs, kp, i, at)?;
         let w = i * rules::HELD;
-        at = at + table[w + 9] as usize + table[w + 10] as usize;
-        i += 1;
+        at = at + table[w + rules::PARENTS] as usize + table[w + rules::CHILDREN] as usize;
     }
     Ok(())
 }

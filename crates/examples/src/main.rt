@@ -6,7 +6,7 @@ use answers::Refusal;
 use shown::{text, word};
 use std::io;
 use types::limits::DagLimits;
-use types::range::{KeyRange, Made};
+use types::range::{KeyRange, RangeError};
 use types::records::{Broker, Optional, SegmentDescriptor, SegmentId, SegmentInfo, Side};
 use types::state::SegmentState;
 
@@ -25,25 +25,25 @@ fn judged(rt: &impl Print, label: &[u8], j: Result<(), Refusal>) -> io::Result<(
     }
 }
 
-fn made(rt: &impl Print, label: &[u8], m: Made) -> io::Result<()> {
+fn made(rt: &impl Print, label: &[u8], r: Result<KeyRange, RangeError>) -> io::Result<()> {
     text(rt, label)?;
-    match m {
-        Made::Range(r) => {
+    match r {
+        Ok(r) => {
             text(rt, b" length")?;
             word(rt, r.len())?;
         }
-        Made::StartOutOfBounds(s) => {
+        Err(RangeError::StartOutOfBounds(start)) => {
             word(rt, 10)?;
-            word(rt, s)?;
+            word(rt, start)?;
         }
-        Made::EndOutOfBounds(e) => {
+        Err(RangeError::EndOutOfBounds(end)) => {
             word(rt, 11)?;
-            word(rt, e)?;
+            word(rt, end)?;
         }
-        Made::Reversed(s, e) => {
+        Err(RangeError::Reversed { start, end }) => {
             word(rt, 12)?;
-            word(rt, s)?;
-            word(rt, e)?;
+            word(rt, start)?;
+            word(rt, end)?;
         }
     }
     text(rt, b"\n")

@@ -17,11 +17,9 @@ fn write_rows(w: &mut [u64], table: &[u64], n: usize, places: &[u64], m: usize, 
     requires ready { Ready w.old table.now n places.now m a b }
     ensures { w.new ≡ put w.old 0 (n * held_width) (key_rows table.now (placements places.now m) (segment_index table.now n)) }
 {
-    let mut p = 0;
-    while p < n {
+    for p in 0..n {
         let r = w[a + p * 3 + 1] as usize;
         row::write_row(w, p * rules::HELD, table, r * rules::ROW, places, m, b);
-        p += 1;
     }
 }
 
@@ -35,13 +33,13 @@ fn copy_edges(
     row: usize,
 ) -> usize
     requires row_width_in_bounds { row + row_width ≤ length table.now }
-    requires row_in_bounds { from + parents_at table.now row + children_at table.now row ≤ length edges.now }
-    requires row_in_bounds_2 { at + parents_at table.now row + children_at table.now row ≤ length w.old }
+    requires edges_in_table { from + parents_at table.now row + children_at table.now row ≤ length edges.now }
+    requires edges_have_room { at + parents_at table.now row + children_at table.now row ≤ length w.old }
     ensures value { result ≡ at + parents_at table.now row + children_at table.now row }
     ensures w_after { w.new ≡ put w.old at (parents_at table.now row + children_at table.now row) (row_edges table.now edges.now row from) }
 {
-    let parents = table[row + 9] as usize;
-    let children = table[row + 10] as usize;
+    let parents = table[row + rules::PARENTS] as usize;
+    let children = table[row + rules::CHILDREN] as usize;
     let to = from + parents + children;
     words::copy_into(w, at, &edges[from..to]);
     at + parents + children
@@ -56,13 +54,11 @@ fn write_edges(w: &mut [u64], table: &[u64], n: usize, edges: &[u64], a: usize)
     requires indexed { Indexed (part w.old a (3 * n)) table.now n }
     ensures { w.new ≡ put w.old (n * held_width) (length edges.now) (key_edges table.now edges.now (segment_index table.now n)) }
 {
-    let mut p = 0;
     let mut at = n * rules::HELD;
-    while p < n {
+    for p in 0..n {
         let r = w[a + p * 3 + 1] as usize;
         let from = w[a + p * 3 + 2] as usize;
         at = copy_edges(w, at, edges, from, table, r * rules::ROW);
-        p += 1;
     }
 }
 
@@ -88,9 +84,9 @@ pub fn write_image(
 
 // The image of n rows and e edges, copied to the front of the held areas.
 pub fn store_image(w: &[u64], n: usize, e: usize, held: &mut [u64], links: &mut [u64])
-    requires e_in_bounds { n * held_width + e ≤ length w.now }
-    requires held_width_in_bounds { n * held_width ≤ length held.old }
-    requires e_in_bounds_2 { e ≤ length links.old }
+    requires image_in_area { n * held_width + e ≤ length w.now }
+    requires rows_fit { n * held_width ≤ length held.old }
+    requires edges_fit { e ≤ length links.old }
     ensures held_after { held.new ≡ front (part w.now 0 (n * held_width)) held.old }
     ensures links_after { links.new ≡ front (part w.now (n * held_width) e) links.old }
 {

@@ -9,13 +9,14 @@ ghost use Rattle.imaged.specs.Asked.{behind, Imaged, Indexed, Paired};
 
 use answers::Refusal;
 use lookups::links::{count_pairs, index_pairs};
+use types::records::Side;
 
 // The index of the k pairs of one side, from word `from` on.
 fn index_side(
     w: &mut [u64],
     from: usize,
     k: usize,
-    parents: bool,
+    side: Side,
     rows: &[u64],
     n: usize,
     edges: &[u64],
@@ -23,11 +24,11 @@ fn index_side(
     requires k_in_bounds { from + 3 * k ≤ length w.old }
     requires row_width_in_bounds { n * row_width ≤ length rows.now }
     requires counts_match { edges_from row_width rows.now n 0 ≡ length edges.now }
-    requires pairs_counted { sides_from parents row_width rows.now n 0 ≡ k }
-    ensures { Indexed parents rows.now edges.now n w.old w.new from k }
+    requires pairs_counted { sides_from side row_width rows.now n 0 ≡ k }
+    ensures { Indexed side rows.now edges.now n w.old w.new from k }
 {
     let to = from + 3 * k;
-    index_pairs(&mut w[from..to], k, parents, rows, rules::ROW, n, edges);
+    index_pairs(&mut w[from..to], k, side, rows, rules::ROW, n, edges);
 }
 
 // Both indexes; how many pairs the children's has.
@@ -36,10 +37,10 @@ fn index_both(w: &mut [u64], n: usize, e: usize, rows: &[u64], edges: &[u64]) ->
     ensures paired { Paired w.new n e result }
     ensures w_unchanged { take (behind n e) w.new ≡ take (behind n e) w.old }
 {
-    let k = count_pairs(false, rows, rules::ROW, n, e);
+    let k = count_pairs(Side::Children, rows, rules::ROW, n, e);
     let a = n * rules::HELD + e;
-    index_side(w, a, k, false, rows, n, edges);
-    index_side(w, a + 3 * k, e - k, true, rows, n, edges);
+    index_side(w, a, k, Side::Children, rows, n, edges);
+    index_side(w, a + 3 * k, e - k, Side::Parents, rows, n, edges);
     k
 }
 

@@ -35,7 +35,8 @@ pub fn index_rows(index: &mut [u64], table: &[u64], n: usize, total: usize)
     sorts::sort3(index, n);
 }
 
-// The keys of the m placement rows, in input order.
+// The keys of the m placement rows, in input order. Not one function with `fill_rows`: placements have no edges, so the running place
+// and the counts that bound it would be asked for and unused; what both do alike is `put3` and `sort3`.
 fn fill_places(index: &mut [u64], table: &[u64], m: usize)
     requires index_len { length index.old ≡ 3 * m }
     requires place_width_in_bounds { m * place_width ≤ length table.now }

@@ -1,5 +1,4 @@
 pub mod Before
 pub mod Distinct
-pub mod Leaves
 pub mod Places
 pub mod Walk

@@ -13,8 +13,7 @@ pub fn judge_placements(places: &[u64], m: usize, flags: &[u64]) -> Result<(), R
     requires twins { Twins (ids places.now place_width m) flags.now }
     ensures { result ≡ placements_rule (placements places.now m) }
 {
-    let mut i = 0;
-    while i < m {
+    for i in 0..m {
         let w = i * rules::PLACE;
         let id = places[w];
         if flags[i] != 0 {
@@ -23,7 +22,6 @@ pub fn judge_placements(places: &[u64], m: usize, flags: &[u64]) -> Result<(), R
         if places[w + 1] == 0 {
             return Err(Refusal::EmptyPlacementUrl { id });
         }
-        i += 1;
     }
     Ok(())
 }

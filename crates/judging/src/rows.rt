@@ -13,7 +13,7 @@ use segment::descriptor::judge_descriptor;
 use segment::lifecycle::judge_lifecycle;
 use segment::list::judge_list;
 use types::records::{Optional, SegmentId, Side};
-use types::state::{SegmentState, StateRead};
+use types::state::SegmentState;
 
 // 9 to 13, for the row that begins at word w.
 fn judge_descriptor_at(rows: &[u64], w: usize) -> Result<(), Refusal>
@@ -21,14 +21,14 @@ fn judge_descriptor_at(rows: &[u64], w: usize) -> Result<(), Refusal>
     ensures { result ≡ head_descriptor (head_at rows.now w) }
 {
     let legacy = Optional {
-        flag: rows[w + 7],
-        word: rows[w + 8],
+        flag: rows[w + rules::LEGACY],
+        word: rows[w + rules::LEGACY + 1],
     };
     judge_descriptor(
         SegmentId(rows[w]),
-        rows[w + 1],
-        rows[w + 2],
-        rows[w + 3],
+        rows[w + rules::START],
+        rows[w + rules::END],
+        rows[w + rules::STATE],
         legacy,
     )
 }
@@ -37,10 +37,7 @@ fn judge_descriptor_at(rows: &[u64], w: usize) -> Result<(), Refusal>
 fn state_after(state: u64) -> SegmentState
     ensures { result ≡ state_after (state_of state) }
 {
-    match SegmentState::from_word(state) {
-        StateRead::Known(s) => s,
-        StateRead::Unknown(_) => SegmentState::Sealed,
-    }
+    SegmentState::from_word(state).unwrap_or(SegmentState::Sealed)
 }
 
 // 14 to 18, with that many children.
@@ -49,15 +46,15 @@ fn judge_lifecycle_at(layout: u64, rows: &[u64], w: usize, children: u64) -> Res
     ensures { result ≡ head_lifecycle layout (head_at rows.now w) children }
 {
     let sealed = Optional {
-        flag: rows[w + 5],
-        word: rows[w + 6],
+        flag: rows[w + rules::SEALED],
+        word: rows[w + rules::SEALED + 1],
     };
-    let state = state_after(rows[w + 3]);
+    let state = state_after(rows[w + rules::STATE]);
     judge_lifecycle(
         layout,
         SegmentId(rows[w]),
         state,
-        rows[w + 4],
+        rows[w + rules::CREATED],
         sealed,
         children,
     )
@@ -89,25 +86,20 @@ fn judge_row(layout: u64, rows: &[u64], w: usize, edges: &[u64], at: usize) -> R
     requires edges_in_table { at + parents_at rows.now w + children_at rows.now w ≤ length edges.now }
     ensures { result ≡ row_rule layout (segment_at rows.now edges.now w at) }
 {
-    let mid = at + rows[w + 9] as usize;
-    let end = mid + rows[w + 10] as usize;
+    let mid = at + rows[w + rules::PARENTS] as usize;
+    let end = mid + rows[w + rules::CHILDREN] as usize;
     let parents = &edges[at..mid];
     let children = &edges[mid..end];
     judge_head(layout, rows, w, children.len() as u64)?;
     judge_lists(SegmentId(rows[w]), parents, children)
 }
 
-fn larger(a: usize, b: usize) -> usize
-    ensures { result ≡ max a b }
-{
-    if a < b { b } else { a }
-}
-
 // 22.
+#[tactic(auto, unfolding(rules::specs::Rows::edge_count_rule))]
 fn judge_edge_count(limit: u64, parents: usize, children: usize) -> Result<(), Refusal>
     ensures { result ≡ edge_count_rule limit (max parents children) }
 {
-    let total = larger(parents, children);
+    let total = parents.max(children);
     if limit < total as u64 {
         return Err(Refusal::EdgeCount {
             actual: total as u64,
@@ -150,22 +142,20 @@ pub fn judge_rows(
     requires twins { Twins (ids rows.now row_width n) flags.now }
     ensures { result ≡ rows_rule layout limit (segments rows.now edges.now n) }
 {
-    let mut i = 0;
     let mut at = 0;
     let mut parents = 0;
     let mut children = 0;
-    while i < n {
+    for i in 0..n {
         let w = i * rules::ROW;
         if flags[i] != 0 {
             return Err(Refusal::DuplicateSegment { id: rows[w] });
         }
-        let p = rows[w + 9] as usize;
-        let c = rows[w + 10] as usize;
+        let p = rows[w + rules::PARENTS] as usize;
+        let c = rows[w + rules::CHILDREN] as usize;
         parents += p;
         children += c;
         judge_counted(layout, limit, rows, w, edges, at, parents, children)?;
         at = at + p + c;
-        i += 1;
     }
     Ok(())
 }

@@ -6,6 +6,7 @@ use answers::Refusal;
 use types::limits::DagLimits;
 
 // 3, 4, 5.
+#[tactic(auto, unfolding(rules::specs::Rows::size_rule))]
 pub fn judge_sizes(limits: DagLimits, size: u64, n: usize, p: usize) -> Result<(), Refusal>
     ensures { result ≡ size_rule limits size n p }
 {

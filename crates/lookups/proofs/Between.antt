@@ -1,4 +1,4 @@
--- A pair looked up in sorted rows: what the tests of `is_before` say, the bracket of the search, and its end.
+-- A pair looked up in sorted rows: the test, the bracket of the search, and its end.
 -- By the order of the rows, which (x, y) divides into those before it and the others. Assumes nothing.
 use Prim.Native.Nat.{ℕ, zero, suc, ◌+◌, ◌*◌, ◌≤◌, ◌<◌, zero-le, suc-le-suc}
 use native.Mathlib.Nat.{le_of_suc-le-suc, not-suc-le-zero}
@@ -59,21 +59,6 @@ down r s x y e h =
 
 up : (r s : Row) (x y : ℕ) → le3 r s ≡ true → pair_lt r x y ≡ false → pair_lt s x y ≡ false
 up r s x y e h = ⊎_elim (λ (g : pair_lt s x y ≡ true). no (sym (down r s x y e g) ∙ h)) (λ g. g) (true-or-false (pair_lt s x y))
-
--- ---- the words
-
-module _ (pairs : List ℕ) (r x y : ℕ) (fits : 3 * r + 3 ≤ length pairs) where
-  row_is : at (rows pairs) r ≡ (get_or pairs (3 * r) 0, get_or pairs (3 * r + 1) 0, get_or pairs (3 * r + 2) 0)
-  row_is = rows_at pairs r fits
-
-  pub before-less : get_or pairs (3 * r) 0 < x → true ≡ pair_lt (at (rows pairs) r) x y
-  before-less h = rw (row_is, lt-ltb (get_or pairs (3 * r) 0) x h) refl
-
-  pub before_more : x ≤ get_or pairs (3 * r) 0 → (get_or pairs (3 * r) 0 ≡ x → ⊥) → false ≡ pair_lt (at (rows pairs) r) x y
-  before_more h g = rw (row_is, le-ltb (get_or pairs (3 * r) 0) x h, ne_eqb (get_or pairs (3 * r) 0) x g) refl
-
-  pub before_same : x ≤ get_or pairs (3 * r) 0 → get_or pairs (3 * r) 0 ≡ x → ltb (get_or pairs (3 * r + 1) 0) y ≡ pair_lt (at (rows pairs) r) x y
-  before_same h g = rw (row_is, le-ltb (get_or pairs (3 * r) 0) x h, eq-eqb (get_or pairs (3 * r) 0) x g) refl
 
 -- ---- the search: what is below lo stands before (x, y), and what is from hi on does not
 
@@ -174,8 +159,8 @@ module _ (pairs : List ℕ) (k x y p : ℕ) (size : length pairs ≡ 3 * k) (sai
   pub has-past : k ≤ p → false ≡ has_pair x y (rows pairs)
   has-past h = sym (said ∙ rw (le-ltb p k h) refl)
 
-  pub has_other : p < k → (get_or pairs (3 * p) 0 ≡ x → ⊥) → false ≡ has_pair x y (rows pairs)
-  has_other h n = sym (said ∙ rw (lt-ltb p k h, rows_at pairs p (omega arith), ne_eqb (get_or pairs (3 * p) 0) x n) refl)
+  pub has_other : p < k → (get_or pairs (3 * p) 0 ≡ x → ⊥) → eqb (get_or pairs (3 * p) 0) x ≡ has_pair x y (rows pairs)
+  has_other h n = rw (ne_eqb (get_or pairs (3 * p) 0) x n) (sym (said ∙ rw (lt-ltb p k h, rows_at pairs p (omega arith), ne_eqb (get_or pairs (3 * p) 0) x n) refl))
 
   pub has_here : p < k → get_or pairs (3 * p) 0 ≡ x → eqb (get_or pairs (3 * p + 1) 0) y ≡ has_pair x y (rows pairs)
   has_here h e = sym (said ∙ rw (lt-ltb p k h, rows_at pairs p (omega arith), eq-eqb (get_or pairs (3 * p) 0) x e) refl)

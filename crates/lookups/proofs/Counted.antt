@@ -4,62 +4,42 @@
 use Prim.Native.Nat.{ℕ, zero, suc, ◌+◌, ◌-◌, ◌*◌, ◌≤◌, ◌<◌}
 use native.Mathlib.Nat.{sub-zero, zero-add}
 use native.Mathlib.Omega.{arith}
-use mathlib.Core.Bool.{Bool, true, false}
 use mathlib.Core.Path.{◌≡◌, refl, ◌∙◌}
 use mathlib.Core.List.{List}
 use mir.Val.{Fits}
 use mir.Syntax.{w64}
-use Rattle.rules.specs.Tables.{parents_at, children_at, edges_from}
+use Rattle.types.specs.declared.records.Side.{Side}
+use Rattle.types.specs.declared.records.Side.TheVariants.{Parents, Children}
+use Rattle.rules.specs.Tables.{edges_from}
 use Rattle.lookups.specs.Sides.{side_at, sides_from}
 
-pub sides-both : (width : ℕ) (table : List ℕ) (n i : ℕ) → sides_from true width table n i + sides_from false width table n i ≡ edges_from width table n i
+pub sides-both : (width : ℕ) (table : List ℕ) (n i : ℕ) → sides_from Parents width table n i + sides_from Children width table n i ≡ edges_from width table n i
 sides-both width table zero i = refl
 sides-both width table (suc n) i = omega (arith, sides-both width table n (i + 1))
 
-sides-le : (b : Bool) (width : ℕ) (table : List ℕ) (n : ℕ) → sides_from b width table n 0 ≤ edges_from width table n 0
-sides-le true width table n = omega (arith, sides-both width table n 0)
-sides-le false width table n = omega (arith, sides-both width table n 0)
+sides-le : (b : Side) (width : ℕ) (table : List ℕ) (n : ℕ) → sides_from b width table n 0 ≤ edges_from width table n 0
+sides-le Parents width table n = omega (arith, sides-both width table n 0)
+sides-le Children width table n = omega (arith, sides-both width table n 0)
 
-module _ (b : Bool) (width : ℕ) (table : List ℕ) where
+module _ (b : Side) (width : ℕ) (table : List ℕ) where
   -- k are counted, of the rows before row i
   pub record Counting (n i k : ℕ) : Type 0 where
     pub below : i ≤ n
     pub rest : sides_from b width table n 0 ≡ k + sides_from b width table (n - i) i
 
-  pub count-start : (n : ℕ) → Counting n 0 0
-  count-start n = record { below = omega arith; rest = simp (zero-add, sub-zero) }
+  pub count_start : (n : ℕ) → Counting n 0 0
+  count_start n = record { below = omega arith; rest = simp (zero-add, sub-zero) }
 
   module _ (n i k : ℕ) (f : Counting n i k) where
-    pub count-end : n ≤ i → k ≡ sides_from b width table n 0
-    count-end h = let z : n - i ≡ 0 = omega arith in let e : sides_from b width table n 0 ≡ k + 0 = f.rest ∙ rw z refl in omega arith
+    pub count_end : n ≤ i → k ≡ sides_from b width table n 0
+    count_end h = let z : n - i ≡ 0 = omega arith in let e : sides_from b width table n 0 ≡ k + 0 = f.rest ∙ rw z refl in omega arith
 
     module _ (less : i < n) where
       open_up : sides_from b width table n 0 ≡ k + (side_at b table (i * width) + sides_from b width table (n - (i + 1)) (i + 1))
       open_up = let e : n - i ≡ suc (n - (i + 1)) = omega arith in f.rest ∙ rw e refl
 
-      next : Counting n (i + 1) (k + side_at b table (i * width))
-      next = record { below = omega arith; rest = omega (arith, open_up) }
+      pub count_next : Counting n (i + 1) (k + side_at b table (i * width))
+      count_next = record { below = omega arith; rest = omega (arith, open_up) }
 
-      fits : (total : ℕ) → edges_from width table n 0 ≡ total → Fits w64 total → Fits w64 (k + side_at b table (i * width))
-      fits total all h = record { fits = omega (arith, open_up, sides-le b width table n, h.fits) }
-
-      -- the same with the side named
-      module _ (parents : b ≡ true) where
-        at-parents : side_at b table (i * width) ≡ parents_at table (i * width)
-        at-parents = rw parents refl
-
-        pub next-parents : Counting n (i + 1) (k + parents_at table (i * width))
-        next-parents = rw at-parents at next
-
-        pub fits-parents : (total : ℕ) → edges_from width table n 0 ≡ total → Fits w64 total → Fits w64 (k + parents_at table (i * width))
-        fits-parents total all h = rw at-parents at (fits total all h)
-
-      module _ (children : b ≡ false) where
-        at-children : side_at b table (i * width) ≡ children_at table (i * width)
-        at-children = rw children refl
-
-        pub next-children : Counting n (i + 1) (k + children_at table (i * width))
-        next-children = rw at-children at next
-
-        pub fits-children : (total : ℕ) → edges_from width table n 0 ≡ total → Fits w64 total → Fits w64 (k + children_at table (i * width))
-        fits-children total all h = rw at-children at (fits total all h)
+      pub count_fits : (total : ℕ) → edges_from width table n 0 ≡ total → Fits w64 total → Fits w64 (k + side_at b table (i * width))
+      count_fits total all h = record { fits = omega (arith, open_up, sides-le b width table n, h.fits) }

@@ -9,11 +9,13 @@ use mathlib.Core.List.{List, [], ◌∷◌}
 use lib.ListN.{length, get_or, drop, drop_of_length-le}
 use lib.Seq.{drop-cons}
 use lib.Dec.{leb}
+use Rattle.std.specs.Prelude.{is_some}
 use Rattle.lists.specs.Lists.{has}
 use Rattle.lists.specs.Sort.{sorted}
+use Rattle.lists.proofs.RowOrder.{no}
 use Rattle.lists.proofs.Tests.{has-sorted}
 use Rattle.words.specs.Table.{ids, where_is, Found, At, Nothing}
-use Rattle.words.proofs.TableLaws.{length_ids, ids_at, has-hit}
+use Rattle.words.proofs.TableLaws.{length_ids, ids_at, hit, has-hit}
 use Rattle.answers.specs.Answer.{when, ◌then◌, Judged, Accepted, Refused}
 use Rattle.sorts.specs.Rows.{rows}
 use Rattle.rules.specs.Model.{ids_of}
@@ -26,12 +28,14 @@ use Rattle.answers.specs.declared.Refusal.TheVariants.{DanglingPlacement}
 
 -- ---- a search
 
-module _ (x : ℕ) (l : List ℕ) (f : Found) (said : f ≡ where_is l x) where
-  pub lacks-hit : (k : ℕ) → f ≡ At k → false ≡ not (has x l)
-  lacks-hit k told = rw (has-hit l x, ← said, told) refl
-
-  pub lacks-none : f ≡ Nothing → true ≡ not (has x l)
-  lacks-none told = rw (has-hit l x, ← said, told) refl
+pub lacks : (x : ℕ) (l : List ℕ) (f : Found) (b : Bool) → f ≡ where_is l x → is_some f ≡ not b → b ≡ not (has x l)
+lacks x l f b said e = rw (has-hit l x, ← said) (go f b e)
+  where
+    go : (f : Found) (b : Bool) → is_some f ≡ not b → b ≡ not (hit f)
+    go Nothing true e = refl
+    go Nothing false e = no (sym e)
+    go (At k) true e = no e
+    go (At k) false e = refl
 
 -- ---- 23: the loop
 

@@ -6,7 +6,6 @@
 use Prim.Native.Nat.{ℕ, zero, suc, ◌+◌, ◌-◌, ◌*◌, ◌≤◌, ◌<◌}
 use native.Mathlib.Nat.{sub-zero}
 use native.Mathlib.Omega.{arith}
-use mathlib.Core.Bool.{Bool, true, false}
 use mathlib.Core.Path.{◌≡◌, refl, sym, ap, ◌∙◌}
 use mathlib.Core.List.{List, ◌++◌, map, append_assoc, append-nil}
 use lib.ListN.{length, get_or, take, length-append, length-map}
@@ -15,22 +14,24 @@ use Rattle.lists.specs.Sort.{Row, le3, sorted}
 use Rattle.words.proofs.TableLaws.{field_in}
 use Rattle.sorts.specs.Rows.{rows}
 use Rattle.sorts.proofs.RowLaws.{rows-length}
+use Rattle.types.specs.declared.records.Side.{Side}
+use Rattle.types.specs.declared.records.Side.TheVariants.{Parents, Children}
 use Rattle.rules.specs.Tables.{head_width, parents_at, children_at, segment_at, segments_from, edges_from, start_of}
 use Rattle.rules.proofs.Places.{start-next, start-room, length-stretch}
-use Rattle.lookups.specs.Sides.{pair_of, pairs_of, side, side_at, sides_from, pair_index}
+use Rattle.lookups.specs.Sides.{pair_of, pairs_of, side_of, side_at, sides_from, pair_index}
 
 -- the words of row i that all tables have
 pub row_in : (i n width len : ℕ) → i < n → head_width ≤ width → n * width ≤ len → i * width + head_width ≤ len
 row_in i n width len h p q = omega (arith, field_in i n width 10 len h (omega arith) q)
 
-length-side : (b : Bool) (table edges : List ℕ) (w place : ℕ) → place + parents_at table w + children_at table w ≤ length edges
-    → length (side b (segment_at table edges w place)) ≡ side_at b table w
-length-side true table edges w place h = length-stretch edges place (parents_at table w) (omega arith)
-length-side false table edges w place h = length-stretch edges (place + parents_at table w) (children_at table w) h
+length-side : (b : Side) (table edges : List ℕ) (w place : ℕ) → place + parents_at table w + children_at table w ≤ length edges
+    → length (side_of b (segment_at table edges w place)) ≡ side_at b table w
+length-side Parents table edges w place h = length-stretch edges place (parents_at table w) (omega arith)
+length-side Children table edges w place h = length-stretch edges (place + parents_at table w) (children_at table w) h
 
-module _ (b : Bool) (width : ℕ) (table edges : List ℕ) where
+module _ (b : Side) (width : ℕ) (table edges : List ℕ) where
   abbrev pairs_from : ℕ → ℕ → ℕ → List Row
-  pairs_from n i place = pairs_of (side b) (segments_from width table edges n i place)
+  pairs_from n i place = pairs_of (side_of b) (segments_from width table edges n i place)
 
   -- k pairs stand, of the rows before row i, whose edges begin at `place`
   pub record Filling (n : ℕ) (pairs : List ℕ) (i place k : ℕ) : Type 0 where
@@ -59,7 +60,7 @@ module _ (b : Bool) (width : ℕ) (table edges : List ℕ) where
       w = i * width
 
       abbrev list : List ℕ
-      list = side b (segment_at table edges w place)
+      list = side_of b (segment_at table edges w place)
 
       abbrev next : ℕ
       next = place + parents_at table w + children_at table w
@@ -98,7 +99,7 @@ module _ (b : Bool) (width : ℕ) (table edges : List ℕ) where
   length_pairs (suc n) i place h =
       let w : ℕ = i * width in
       let next : ℕ = place + parents_at table w + children_at table w in
-      let list : List ℕ = side b (segment_at table edges w place) in
+      let list : List ℕ = side_of b (segment_at table edges w place) in
       let a = length-append (map (pair_of (get_or table w 0)) list) (pairs_from n (i + 1) next) in
       let c = length-map list (pair_of (get_or table w 0)) in
       let d : length list ≡ side_at b table w = length-side b table edges w place (omega arith) in

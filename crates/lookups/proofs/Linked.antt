@@ -20,18 +20,19 @@ use Rattle.lists.proofs.SortLaws.{sorted-asc, asc-lt}
 use Rattle.lists.proofs.RowOrder.{order3, no}
 use Rattle.lists.proofs.Tests.{any-sorted}
 use Rattle.sorts.specs.Heap.{row0}
+use Rattle.types.specs.declared.records.Side.{Side}
 use Rattle.rules.specs.Model.{Segment, id_of, ids_of, lookup}
 use Rattle.rules.specs.Tables.{parents_at, children_at, segments_from}
 use Rattle.words.specs.Twins.{NoTwins}
 use Rattle.lookups.specs.PairSearch.{has_pair, Ordered}
-use Rattle.lookups.specs.Sides.{Distinct, pair_of, pairs_of, side, pair_index}
+use Rattle.lookups.specs.Sides.{Distinct, pair_of, pairs_of, side_of, pair_index}
 
 pub sorted-ordered : (l : List Row) → Ordered (sorted le3 l)
 sorted-ordered l p q h k = asc-lt le3 order3 row0 (sorted le3 l) (sorted-asc le3 order3 l) p q h k
 
-pub index-ordered : (parents : Bool) (width : ℕ) (table edges : List ℕ) (n : ℕ) → Ordered (pair_index parents width table edges n)
+pub index-ordered : (side : Side) (width : ℕ) (table edges : List ℕ) (n : ℕ) → Ordered (pair_index side width table edges n)
 unfolding pair_index
-index-ordered parents width table edges n = sorted-ordered (pairs_of (side parents) (segments_from width table edges n 0 0))
+index-ordered side width table edges n = sorted-ordered (pairs_of (side_of side) (segments_from width table edges n 0 0))
 
 pair-sorted : (x y : ℕ) (l : List Row) → has_pair x y (sorted le3 l) ≡ has_pair x y l
 pair-sorted x y l = any-sorted le3 (has_pair x y) (λ (r : Row). eqb r.0 x && eqb r.1 y) (λ r l. refl) l
@@ -86,10 +87,10 @@ module _ (list : Segment → List ℕ) (x y : ℕ) where
   linked ss s d e = pair-sorted x y (pairs_of list ss) ∙ pair-of ss s d e
 
 -- the same of the index of a table
-pub linked-index : (parents : Bool) (width : ℕ) (table edges : List ℕ) (n x y : ℕ) (s : Segment) → Distinct (segments_from width table edges n 0 0)
-    → lookup x (segments_from width table edges n 0 0) ≡ some s → has_pair x y (pair_index parents width table edges n) ≡ has y (side parents s)
+pub linked-index : (side : Side) (width : ℕ) (table edges : List ℕ) (n x y : ℕ) (s : Segment) → Distinct (segments_from width table edges n 0 0)
+    → lookup x (segments_from width table edges n 0 0) ≡ some s → has_pair x y (pair_index side width table edges n) ≡ has y (side_of side s)
 unfolding pair_index
-linked-index parents width table edges n x y s d e = linked (side parents) x y (segments_from width table edges n 0 0) s d e
+linked-index side width table edges n x y s d e = linked (side_of side) x y (segments_from width table edges n 0 0) s d e
 
 -- ---- distinct rows are distinct segments
 

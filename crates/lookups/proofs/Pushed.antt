@@ -6,7 +6,6 @@ use Prim.Native.Nat.{ℕ, suc, ◌+◌, ◌*◌, ◌≤◌, ◌<◌}
 use native.Mathlib.Nat.{add-zero}
 use native.Mathlib.Numerals.{add-one}
 use native.Mathlib.Omega.{arith}
-use mathlib.Core.Bool.{Bool, true, false}
 use mathlib.Core.Path.{◌≡◌, refl, sym, ap, ◌∙◌}
 use mathlib.Core.List.{List, [], ◌∷◌, ◌++◌, map, map-append, append_assoc, append-nil}
 use lib.ListN.{length, get_or, take, set}
@@ -14,8 +13,10 @@ use lib.Seq.{take-suc, take-suc-set, take_all}
 use Rattle.lists.specs.Sort.{Row}
 use Rattle.sorts.specs.Rows.{rows}
 use Rattle.sorts.proofs.RowLaws.{le-rows}
+use Rattle.types.specs.declared.records.Side.{Side}
+use Rattle.types.specs.declared.records.Side.TheVariants.{Parents, Children}
 use Rattle.rules.specs.Model.{Segment}
-use Rattle.lookups.specs.Sides.{pair_of, side}
+use Rattle.lookups.specs.Sides.{pair_of, side_of}
 
 pub push-start : (k : ℕ) (r : List Row) (id : ℕ) (list : List ℕ) → take (k + 0) r ≡ take k r ++ map (pair_of id) (take 0 list)
 push-start k r id list = rw add-zero (sym (append-nil (take k r)))
@@ -41,19 +42,19 @@ push-end r r₀ list id k j a b e =
 
 -- ---- a row: its side is the list
 
-pub side-parents : (b : Bool) (s : Segment) → b ≡ true → side b s ≡ s.parents
+pub side-parents : (b : Side) (s : Segment) → b ≡ Parents → side_of b s ≡ s.parents
 side-parents b s e = rw e refl
 
-pub side-children : (b : Bool) (s : Segment) → b ≡ false → side b s ≡ s.children
+pub side-children : (b : Side) (s : Segment) → b ≡ Children → side_of b s ≡ s.children
 side-children b s e = rw e refl
 
-module _ (b : Bool) (s : Segment) (list : List ℕ) (k : ℕ) (is : side b s ≡ list) where
-  pub side-room : (size : ℕ) → 3 * (k + length (side b s)) ≤ size → 3 * (k + length list) ≤ size
+module _ (b : Side) (s : Segment) (list : List ℕ) (k : ℕ) (is : side_of b s ≡ list) where
+  pub side-room : (size : ℕ) → 3 * (k + length (side_of b s)) ≤ size → 3 * (k + length list) ≤ size
   side-room size h = rw (← is) h
 
-  pub side_after : (r : ℕ) → r ≡ k + length list → r ≡ k + length (side b s)
+  pub side_after : (r : ℕ) → r ≡ k + length list → r ≡ k + length (side_of b s)
   side_after r e = rw is e
 
   pub side-pushed : (id r : ℕ) (x₀ x : List Row) → r ≡ k + length list → take (k + length list) x ≡ take k x₀ ++ map (pair_of id) list
-      → take r x ≡ take k x₀ ++ map (pair_of id) (side b s)
+      → take r x ≡ take k x₀ ++ map (pair_of id) (side_of b s)
   side-pushed id r x₀ x e f = rw is (ap (λ (t : ℕ). take t x) e ∙ f)

@@ -12,10 +12,7 @@ pub fn lacks_id(index: &[u64], n: usize, id: u64) -> bool
     requires ascends { Ascends (ids index.now 3 n) }
     ensures { result ≡ not (has id (ids index.now 3 n)) }
 {
-    match words::find_row(index, 3, n, id) {
-        Some(_) => false,
-        None => true,
-    }
+    words::find_row(index, 3, n, id).is_none()
 }
 
 // 23: the first id of the index of placements that the index of segments lacks.

@@ -11,13 +11,7 @@ fn is_before(pairs: &[u64], r: usize, x: u64, y: u64) -> bool
 {
     let a = pairs[3 * r];
     let b = pairs[3 * r + 1];
-    if a < x {
-        return true;
-    }
-    if a != x {
-        return false;
-    }
-    b < y
+    a < x || a == x && b < y
 }
 
 // How many of the k pairs stand before (x, y).
@@ -29,6 +23,7 @@ fn pairs_before(pairs: &[u64], k: usize, x: u64, y: u64) -> usize
 {
     let mut lo = 0;
     let mut hi = k;
+    // A `while`: halving, by hand, since `partition_point` of std takes a slice of rows, and these are rows of three words in a slice of words.
     while lo < hi {
         let mid = lo + (hi - lo) / 2;
         if is_before(pairs, mid, x, y) {
@@ -50,8 +45,5 @@ pub fn has_pair(pairs: &[u64], k: usize, x: u64, y: u64) -> bool
     if k <= p {
         return false;
     }
-    if pairs[3 * p] != x {
-        return false;
-    }
-    pairs[3 * p + 1] == y
+    pairs[3 * p] == x && pairs[3 * p + 1] == y
 }

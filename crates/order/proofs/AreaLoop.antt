@@ -11,7 +11,7 @@ use Rattle.words.proofs.PartLaws.{part_length}
 use Rattle.rules.specs.Order.{in_order, too_deep, cyclic}
 use Rattle.tree.specs.Tree.{Tree, least}
 use Rattle.order.specs.Graph.{St, unready, children, Went, visit_all, on, run}
-use Rattle.order.specs.declared.Order.TheVariants.{Whole, Depth, Cycle}
+use Rattle.order.specs.Area.{Whole, Depth, Cycle}
 use Rattle.order.specs.Area.{tree_in, view, order_in, off_in, edges_in, Laid, Told}
 use Rattle.order.proofs.RunLaws.{Going, going_next, going_end}
 use Rattle.order.proofs.StoreLaws.{set-in, set_after, drop-further}

@@ -14,7 +14,7 @@ use lib.ListN.{length, get_or, set, take, drop, replicate}
 use Rattle.words.specs.Part.{part}
 use Rattle.words.proofs.PartLaws.{part_at}
 use Rattle.tree.specs.Tree.{Tree, Low}
-use Rattle.order.specs.declared.Order.{Order}
+use Rattle.order.specs.Area.{Order}
 use Rattle.order.specs.Graph.{start, judge, run, tab, parents}
 use Rattle.order.specs.Area.{tree_in, view, off_in, edges_in, Laid, Beside, Told}
 use Rattle.order.proofs.RunLaws.{parents-length, slots_length}

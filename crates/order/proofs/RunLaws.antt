@@ -17,8 +17,8 @@ use lib.Seq.{slice, slice-cons, slice_empty, length-slice, get_or-take, get_or-d
 use native.Mathlib.Nat.{le_refl, le_antisymm, sub_self}
 use Rattle.lists.proofs.Cases.{one_left}
 use Rattle.tree.specs.Tree.{least, Low, Tree}
-use Rattle.order.specs.declared.Visit.{Visit}
-use Rattle.order.specs.declared.Visit.TheVariants.{Done, Deep}
+use Rattle.std.specs.Prelude.{Result, Ok, Err}
+use Rattle.order.specs.declared.TooDeep.{TooDeep}
 use Rattle.order.specs.Graph.{seen, St, st, Nodes, Graph, touch, Went, on, deep, visit_all, parents, children, unready, run}
 use Rattle.rules.specs.Order.{in_order, too_deep, cyclic}
 
@@ -164,10 +164,10 @@ module _ (n : ℕ) (off edges : List ℕ) (lim : ℕ) (s₀ : St) (deg dep tree 
                 ∙ ap (λ (ys : List ℕ). run n off edges lim (n - (k + 1)) ys (st n deg' dep' tree')) (sym more);
           }
 
-pub seen-deep : (v : Went) (r : Visit) (s : St) (e : ℕ) → v ≡ seen r s → r ≡ Deep e → v ≡ deep e
+pub seen-deep : (v : Went) (r : Result (Unit {0}) TooDeep) (s : St) (e : TooDeep) → v ≡ seen r s → r ≡ Err e → v ≡ deep e.0
 seen-deep v r s e h q = rw q at h
 
-pub seen-on : (v : Went) (r : Visit) (s : St) → v ≡ seen r s → r ≡ Done → v ≡ on s
+pub seen-on : (v : Went) (r : Result (Unit {0}) TooDeep) (s : St) → v ≡ seen r s → r ≡ Ok tt → v ≡ on s
 seen-on v r s h q = rw q at h
 
 -- node i's parents

@@ -1,12 +1,12 @@
 -- The parts of the work area: of a graph of n nodes, the words 0..n are the parents still awaited, n..2n the depths, 2n..4n the tree of the
 -- ready set, 4n..5n the order that is being written, 5n..7n+1 the offsets, and from 7n+1 on the edges.
 -- Assumes nothing.
-use Rattle.std.specs.Prelude.{List, ◌≡◌, ℕ, ◌+◌, ◌*◌, ◌≤◌, drop, length}
+use Rattle.std.specs.Prelude.{List, ◌≡◌, ℕ, ◌+◌, ◌*◌, ◌≤◌, drop, length, Result, Ok, Err}
 use Rattle.words.specs.Part.{part}
 use Rattle.rules.specs.Order.{Ordered, in_order, too_deep, cyclic}
 use Rattle.order.specs.Graph.{St, st, Graph}
-use Rattle.order.specs.declared.Order.{Order}
-use Rattle.order.specs.declared.Order.TheVariants.{Whole, Depth, Cycle}
+use Rattle.order.specs.declared.OrderError.{OrderError}
+use Rattle.order.specs.declared.OrderError.TheVariants as E
 
 abbrev pub tree_in : ℕ → List ℕ → List ℕ
 tree_in n w = part w (2 * n) (2 * n)
@@ -29,6 +29,19 @@ edges_in n m w = part w (7 * n + 1) m
 pub record Laid (n m : ℕ) (w : List ℕ) : Type 0 where
   pub room : 7 * n + 1 + m ≤ length w
   pub graph : Graph n (off_in n w) (edges_in n m w)
+
+-- how the order of a graph's nodes came out
+abbrev pub Order : Type 0
+Order = Result (Unit {0}) OrderError
+
+pattern abbrev pub Whole : Order
+Whole = Ok tt
+
+pattern abbrev pub Depth : ℕ → Order
+Depth e = Err (E.Depth e)
+
+pattern abbrev pub Cycle : Order
+Cycle = Err E.Cycle
 
 -- the code's answer, and the order's words after it
 pub record Wrote (xs : List ℕ) (r : Order) (o : List ℕ) : Type 0 where

@@ -1,12 +1,11 @@
 -- The order of document 01 over the nodes 0 to n - 1 of a graph: always take the smallest ready node; its children in list order get depth
 -- one more than it, at least; above the limit is a refusal, at once; and where no node is ready before all were taken there is a cycle.
 -- Assumes nothing.
-use Rattle.std.specs.Prelude.{◌≡◌, cond, List, [], ◌∷◌, ◌++◌, ℕ, zero, suc, ◌+◌, ◌-◌, ◌*◌, ◌<◌, ◌≤◌, max, ltb, eqb, length, get_or, set, drop, replicate}
+use Rattle.std.specs.Prelude.{◌≡◌, cond, List, [], ◌∷◌, ◌++◌, ℕ, zero, suc, ◌+◌, ◌-◌, ◌*◌, ◌<◌, ◌≤◌, max, ltb, eqb, length, get_or, set, drop, replicate, Result, Ok, Err}
 use Rattle.std.proofs.Math.Seq.{slice}
 use Rattle.tree.specs.Tree.{least}
 use Rattle.rules.specs.Order.{Ordered, in_order, too_deep, cyclic}
-use Rattle.order.specs.declared.Visit.{Visit}
-use Rattle.order.specs.declared.Visit.TheVariants.{Done, Deep}
+use Rattle.order.specs.declared.TooDeep.{TooDeep}
 
 -- every element is a node
 abbrev pub Nodes : ℕ → List ℕ → Type 0
@@ -57,9 +56,9 @@ visit_all d lim (c ∷ cs) s =
     cond (ltb lim e) (deep e) (visit_all d lim cs (touch c e s))
 
 -- what the code's answer says: where all were visited, the state that it left
-abbrev pub seen : Visit → St → Went
-seen Done s = on s
-seen (Deep e) s = deep e
+abbrev pub seen : Result (Unit {0}) TooDeep → St → Went
+seen (Ok tt) s = on s
+seen (Err e) s = deep e.0
 
 abbrev pub after : Went → (St → Ordered) → Ordered
 after (on s) k = k s

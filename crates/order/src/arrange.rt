@@ -8,10 +8,10 @@ ghost use Rattle.order.specs.Area.{view, tree_in, off_in, edges_in, order_in, La
 use crate::begin::{begin_deg, begin_dep, begin_slots};
 use crate::slots::first_ready;
 use crate::taking::{index, take_node};
-use crate::{Order, Visit};
+use crate::OrderError;
 
 // Takes all n nodes, the smallest ready one first, and writes them to the words 4n..5n.
-fn arrange(m: usize, lim: u64, n: usize, w: &mut [u64]) -> Order
+fn arrange(m: usize, lim: u64, n: usize, w: &mut [u64]) -> Result<(), OrderError>
     requires { Laid n m w.old × Tree n (tree_in n w.old) × Low n (drop n (tree_in n w.old)) × Low 0 (part w.old n n) }
     ensures { Told (run n (off_in n w.old) (edges_in n m w.old) lim n [] (view n w.old)) result (order_in n w.new) × (drop (5 * n) w.new ≡ drop (5 * n) w.old) }
 {
@@ -19,19 +19,18 @@ fn arrange(m: usize, lim: u64, n: usize, w: &mut [u64]) -> Order
         let x = first_ready(n, w);
         let i = index(x);
         if n <= i {
-            return Order::Cycle;
+            return Err(OrderError::Cycle);
         }
-        let v = take_node(i, m, lim, n, w);
-        if let Visit::Deep(e) = v {
-            return Order::Depth(e);
+        if let Err(deep) = take_node(i, m, lim, n, w) {
+            return Err(OrderError::Depth(deep.0));
         }
         w[4 * n + k] = x;
     }
-    Order::Whole
+    Ok(())
 }
 
 // The whole: of the graph that lies in the area, the answer, and on Whole the order in the words 4n..5n. The words from 5n on are kept.
-pub fn order_in(m: usize, lim: u64, n: usize, w: &mut [u64]) -> Order
+pub fn order_in(m: usize, lim: u64, n: usize, w: &mut [u64]) -> Result<(), OrderError>
     requires { Laid n m w.old }
     ensures { Told (judge n (off_in n w.old) (edges_in n m w.old) lim) result (order_in n w.new) × (drop (5 * n) w.new ≡ drop (5 * n) w.old) }
 {

@@ -7,17 +7,13 @@ pub mod begin;
 pub mod slots;
 pub mod taking;
 
-// How the visit of a node's children ended: all were visited, or one is too deep.
+// The depth of a node that lies deeper than the limit.
 #[derive(Clone, Copy, PartialEq, Eq, Debug)]
-pub enum Visit {
-    Done,
-    Deep(u64),
-}
+pub struct TooDeep(pub u64);
 
-// How the order of a graph's nodes came out.
+// Why a graph's nodes have no order.
 #[derive(Clone, Copy, PartialEq, Eq, Debug)]
-pub enum Order {
-    Whole,
+pub enum OrderError {
     Depth(u64),
     Cycle,
 }

@@ -6,7 +6,7 @@ ghost use Rattle.tree.specs.Tree.{Tree};
 ghost use Rattle.order.specs.Graph.{St, touch, children, unready, visit_all, seen};
 ghost use Rattle.order.specs.Area.{view, tree_in, off_in, edges_in, Laid};
 
-use crate::Visit;
+use crate::TooDeep;
 use crate::slots::set_slot;
 
 // A word as a place.
@@ -30,7 +30,14 @@ fn reach(c: usize, e: u64, n: usize, w: &mut [u64])
 }
 
 // The children w[from..to], which lie in the same area, of a node of depth d.
-fn visit_all(from: usize, to: usize, d: u64, lim: u64, n: usize, w: &mut [u64]) -> Visit
+fn visit_all(
+    from: usize,
+    to: usize,
+    d: u64,
+    lim: u64,
+    n: usize,
+    w: &mut [u64],
+) -> Result<(), TooDeep>
     requires n_bound { (4 * n ≤ from) × (from ≤ to) × (to ≤ length w.old) × (d < n) × Tree n (tree_in n w.old) }
     requires by_index { (j : ℕ) → from ≤ j → j < to → get_or w.old j 0 < n }
     ensures { (visit_all d lim (slice from to w.old) (view n w.old) ≡ seen result (view n w.new)) × Tree n (tree_in n w.new) × (drop (4 * n) w.new ≡ drop (4 * n) w.old) }
@@ -39,15 +46,15 @@ fn visit_all(from: usize, to: usize, d: u64, lim: u64, n: usize, w: &mut [u64]) 
         let c = index(w[j]);
         let e = w[n + c].max(d + 1);
         if lim < e {
-            return Visit::Deep(e);
+            return Err(TooDeep(e));
         }
         reach(c, e, n, w);
     }
-    Visit::Done
+    Ok(())
 }
 
 // Takes node i and visits its children.
-pub fn take_node(i: usize, m: usize, lim: u64, n: usize, w: &mut [u64]) -> Visit
+pub fn take_node(i: usize, m: usize, lim: u64, n: usize, w: &mut [u64]) -> Result<(), TooDeep>
     requires { Laid n m w.old × (i < n) × (get_or (part w.old n n) i 0 < n) × Tree n (tree_in n w.old) }
     ensures { (visit_all (get_or (part w.old n n) i 0) lim (children (off_in n w.old) (edges_in n m w.old) i) (unready n i (view n w.old)) ≡ seen result (view n w.new)) × Tree n (tree_in n w.new) × (drop (4 * n) w.new ≡ drop (4 * n) w.old) }
 {

@@ -14,8 +14,8 @@ use lib.Seq.{get_or-take}
 use Rattle.answers.specs.Answer.{Accepted, Refused}
 use Rattle.order.specs.Area.{Laid, Told, edges_in, off_in, order_in}
 use Rattle.order.specs.Graph.{Graph, Nodes, judge, start}
-use Rattle.order.specs.declared.Order.{Order}
-use Rattle.order.specs.declared.Order.TheVariants.{Cycle, Depth, Whole}
+use Rattle.order.specs.Area.{Order}
+use Rattle.order.specs.Area.{Cycle, Depth, Whole}
 use Rattle.ordered.specs.Left.{Closed, OrderLeft, named}
 use Rattle.ordered.specs.Numbers.{id_in, node_edges, node_named, offsets}
 use Rattle.rules.specs.Model.{Segment, ids_of}

@@ -11,11 +11,11 @@ ghost use Rattle.ordered.specs.Numbers.{offsets, node_edges};
 
 use crate::translate::{lay_edges, lay_ids, lay_offsets};
 use answers::Refusal;
-use order::Order;
+use order::OrderError;
 use order::arrange::order_in;
 
 // The order of the graph that was laid in the scratch.
-fn order_laid(w: &mut [u64], n: usize, e: usize, at: usize, limit: u64) -> Order
+fn order_laid(w: &mut [u64], n: usize, e: usize, at: usize, limit: u64) -> Result<(), OrderError>
     requires { (at + (7 * n + 1 + e) ≤ length w.old) × Graph n (part w.old (at + 5 * n) (2 * n + 1)) (part w.old (at + (7 * n + 1)) e) }
     ensures { Told (judge n (part w.old (at + 5 * n) (2 * n + 1)) (part w.old (at + (7 * n + 1)) e) limit) result (part w.new (at + 4 * n) n) × (take at w.new ≡ take at w.old) }
 {
@@ -24,7 +24,7 @@ fn order_laid(w: &mut [u64], n: usize, e: usize, at: usize, limit: u64) -> Order
 }
 
 // The order of the graph of the image's rows, by row number.
-fn order_nodes(w: &mut [u64], n: usize, e: usize, at: usize, limit: u64) -> Order
+fn order_nodes(w: &mut [u64], n: usize, e: usize, at: usize, limit: u64) -> Result<(), OrderError>
     requires { Image w.old n e × (n * held_width + e ≤ at) × (at + (7 * n + 1 + e) ≤ length w.old) × Closed w.old n e }
     ensures { Told (judge n (offsets (image_rows w.old n) n) (node_edges (image_rows w.old n) n (image_edges w.old n e)) limit) result (part w.new (at + 4 * n) n) × (take at w.new ≡ take at w.old) }
 {
@@ -40,16 +40,15 @@ pub fn judge_order(w: &mut [u64], n: usize, e: usize, at: usize, limit: u64) -> 
     ensures w_unchanged { take at w.new ≡ take at w.old }
     ensures order_left { OrderLeft (order_from limit n [] (map node_of (image_segments w.old n e))) (part w.new (at + 4 * n) n) }
 {
-    let order = order_nodes(w, n, e, at, limit);
-    match order {
-        Order::Whole => {
+    match order_nodes(w, n, e, at, limit) {
+        Ok(()) => {
             lay_ids(w, n, at);
             Ok(())
         }
-        Order::Depth(depth) => Err(Refusal::Depth {
+        Err(OrderError::Depth(depth)) => Err(Refusal::Depth {
             actual: depth,
             max: limit,
         }),
-        Order::Cycle => Err(Refusal::Cycle),
+        Err(OrderError::Cycle) => Err(Refusal::Cycle),
     }
 }

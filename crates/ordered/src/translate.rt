@@ -19,15 +19,13 @@ pub fn lay_offsets(w: &mut [u64], n: usize, e: usize, at: usize)
 {
     let base = at + 5 * n;
     let mut sum = 0;
-    let mut i = 0;
-    while i < n {
+    for i in 0..n {
         let row = i * rules::HELD;
-        let parents = w[row + 9];
-        let children = w[row + 10];
+        let parents = w[row + rules::PARENTS];
+        let children = w[row + rules::CHILDREN];
         w[base + 2 * i] = sum;
         w[base + (2 * i + 1)] = sum + parents;
         sum = sum + parents + children;
-        i += 1;
     }
     w[base + 2 * n] = sum;
 }
@@ -52,11 +50,9 @@ pub fn lay_edges(w: &mut [u64], n: usize, e: usize, at: usize)
 {
     let a = n * rules::HELD;
     let base = at + (7 * n + 1);
-    let mut k = 0;
-    while k < e {
+    for k in 0..e {
         let id = w[a + k];
         w[base + k] = row_of(w, n, id);
-        k += 1;
     }
 }
 
@@ -66,10 +62,8 @@ pub fn lay_ids(w: &mut [u64], n: usize, at: usize)
     ensures { w.new ≡ put w.old (at + 4 * n) n (map (id_in w.old) (part w.old (at + 4 * n) n)) }
 {
     let base = at + 4 * n;
-    let mut k = 0;
-    while k < n {
+    for k in 0..n {
         let i = index(w[base + k]);
         w[base + k] = w[i * rules::HELD];
-        k += 1;
     }
 }

@@ -1,21 +1,18 @@
 -- Document 01, "Order of checks": 3 to 23.
 -- Assumes nothing.
-use Rattle.std.specs.Prelude.{ℕ, ◌+◌, max, Bool, false, not, ◌||◌, List, [], ◌∷◌, ◌++◌, map, length, eqb, ltb, leb}
+use Rattle.std.specs.Prelude.{ℕ, ◌+◌, max, Bool, false, not, ◌||◌, List, [], ◌∷◌, ◌++◌, map, length, Ok, Err, eqb, ltb, leb}
 use Rattle.std.proofs.Math.Option.{Option, none, some}
 use Rattle.lists.specs.Lists.{has}
 use Rattle.lists.specs.Sort.{sorted}
 use Rattle.answers.specs.Answer.{when, ◌then◌, Judged, Accepted, Refused}
 use Rattle.types.specs.declared.limits.DagLimits.{DagLimits}
-use Rattle.types.specs.declared.range.Made.{Made}
-use Rattle.types.specs.declared.range.Made.TheVariants as M
-use Rattle.types.specs.Range.{range_of}
+use Rattle.types.specs.declared.range.RangeError.TheVariants as R
+use Rattle.types.specs.Range.{Made, range_of}
 use Rattle.types.specs.declared.records.Side.{Side}
 use Rattle.types.specs.declared.records.Side.TheVariants.{Parents, Children}
 use Rattle.types.specs.declared.state.SegmentState.{SegmentState}
 use Rattle.types.specs.declared.state.SegmentState.TheVariants.{Active, Sealed}
-use Rattle.types.specs.declared.state.StateRead.{StateRead}
-use Rattle.types.specs.declared.state.StateRead.TheVariants.{Known, Unknown}
-use Rattle.types.specs.State.{state_of}
+use Rattle.types.specs.State.{StateRead, state_of}
 use Rattle.rules.specs.Model.{Head, Segment, Placement, ids_of}
 use Rattle.answers.specs.declared.Refusal.{Refusal}
 use Rattle.answers.specs.declared.Refusal.TheVariants.{StartOutOfBounds, EndOutOfBounds, Reversed, UnknownState, DuplicateParent, DuplicateChild, SerializedSize, SegmentCount, PlacementCount, DuplicatePlacement, EmptyPlacementUrl, EmptyLegacyTopic, ActiveWithSealEpoch, ActiveWithChildren, SealedWithoutEpoch, InvalidSealEpoch, CreatedAfterLayout, SelfEdge, EdgeCount, DuplicateSegment, DanglingPlacement}
@@ -51,15 +48,15 @@ empty_text (some text) = eqb text 0
 
 -- 10 to 12, by the answer of `KeyRange::new`: the id before its values
 unfoldable pub range_rule : ℕ → Made → Judged
-range_rule id (M.Range r) = Accepted
-range_rule id (M.StartOutOfBounds start) = Refused (StartOutOfBounds id start)
-range_rule id (M.EndOutOfBounds end) = Refused (EndOutOfBounds id end)
-range_rule id (M.Reversed start end) = Refused (Reversed id start end)
+range_rule id (Ok range) = Accepted
+range_rule id (Err (R.StartOutOfBounds start)) = Refused (StartOutOfBounds id start)
+range_rule id (Err (R.EndOutOfBounds end)) = Refused (EndOutOfBounds id end)
+range_rule id (Err (R.Reversed start end)) = Refused (Reversed id start end)
 
 -- 13, by the answer of `SegmentState::from_word`, likewise
 unfoldable pub state_rule : ℕ → StateRead → Judged
-state_rule id (Known state) = Accepted
-state_rule id (Unknown word) = Refused (UnknownState id word)
+state_rule id (Ok state) = Accepted
+state_rule id (Err unknown) = Refused (UnknownState id unknown.0)
 
 unfoldable pub descriptor_rule : ℕ → ℕ → ℕ → ℕ → Option ℕ → Judged
 descriptor_rule id start end state legacy =
@@ -91,8 +88,8 @@ lifecycle_rule layout id state created sealed children =
 
 -- the state that a word which got past 13 names
 abbrev pub state_after : StateRead → SegmentState
-state_after (Known s) = s
-state_after (Unknown word) = Sealed
+state_after (Ok state) = state
+state_after (Err unknown) = Sealed
 
 -- ---- one edge list: 19, and 20 for parents or 21 for children
 

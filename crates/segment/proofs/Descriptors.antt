@@ -41,10 +41,10 @@ module _ (i : SegmentInfo) (p : Placed) where
   row-held h u t eh eu et = λ k. record { info = eh k; url = eu k; tls = et k }
 
   module _ (j : Judged) (said : j ≡ judged_row i p) where
-    pub described-refused : (r : Refusal) → j ≡ Refused r → Err r ≡ describe i p
+    pub described_refused : (r : Refusal) → j ≡ Refused r → Err r ≡ describe i p
     unfolding describe
-    described-refused r told = rw (← words-rule i p, ← said, told)
+    described_refused r told = rw (← words-rule i p, ← said, told)
 
-    pub described-held : (d : SegmentDescriptor) → j ≡ Accepted → d ≡ descriptor_of i p → Ok d ≡ describe i p
+    pub described_held : (d : SegmentDescriptor) → j ≡ Accepted → d ≡ descriptor_of i p → Ok d ≡ describe i p
     unfolding describe
-    described-held d told held = rw (← words-rule i p, ← said, told, held)
+    described_held d told held = rw (← words-rule i p, ← said, told, held)

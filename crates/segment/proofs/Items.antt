@@ -1,23 +1,25 @@
--- One edge list, item by item: each way in which the item at `i` can end the rule, and what is left where it does not.
+-- One edge list, item by item: where the item at `i` ends the walk, and what is left where it does not.
 -- Assumes nothing.
-use Prim.Native.Nat.{ℕ, zero, suc, ◌+◌, ◌≤◌, ◌<◌, zero-le, suc-le-suc}
+use Prim.Native.Nat.{ℕ, zero, suc, ◌+◌, ◌-◌, ◌≤◌, ◌<◌, max, zero-le, suc-le-suc}
 use mathlib.Core.Path.{◌≡◌, refl}
-use mathlib.Core.Bool.{true, false}
-use mathlib.Core.List.{List, [], ◌∷◌}
+use mathlib.Core.Bool.{Bool, true, false, cond}
+use mathlib.Core.List.{List, [], ◌∷◌, ◌++◌}
 use native.Mathlib.Numerals.{add-one}
 use mathlib.Core.Logic.{⊎_elim}
-use native.Mathlib.Nat.{eq-or-lt_of_le, le_of_suc-le-suc, not-suc-le-zero}
+use native.Mathlib.Nat.{sub-zero, eq-or-lt_of_le, le_of_suc-le-suc, not-suc-le-zero}
 use native.Mathlib.Omega.{arith}
 use borrow.Author.Tests.{eq-eqb, ne_eqb}
 use lib.ListN.{length, get_or, take, drop, drop_of_length-le}
-use lib.Seq.{slice, slice-cons, slice_empty, drop-cons, take-suc}
+use lib.Seq.{drop-cons, take-suc}
 use lib.Dec.{eqb}
+use Rattle.std.specs.Prelude.{Ok, Err}
 use Rattle.lists.specs.Lists.{has}
 use Rattle.answers.specs.Answer.{when, ◌then◌, Judged, Accepted, Refused}
 use Rattle.types.specs.declared.records.Side.{Side}
 use Rattle.rules.specs.Rows.{duplicate, items_from, list_rule}
-use Rattle.answers.specs.declared.Refusal.{Refusal}
-use Rattle.answers.specs.declared.Refusal.TheVariants.{SelfEdge}
+use Rattle.answers.specs.declared.Refusal.TheVariants as R
+use Rattle.segment.specs.declared.list.ListFault.TheVariants.{SelfEdge, Duplicate}
+use Rattle.segment.specs.Faults.{Faulted, fault_from, fault_of}
 
 -- none of the first i items is above top
 abbrev pub Under : List ℕ → ℕ → ℕ → Type 0
@@ -29,50 +31,74 @@ none x [] (suc i) h q = absurd (not-suc-le-zero q)
 none x (y ∷ l) (suc i) h q =
     rw (ne_eqb y x (λ e. omega (arith, h 0 (suc-le-suc zero-le)))) (none x l i (λ k p. h (suc k) (suc-le-suc p)) (le_of_suc-le-suc q))
 
--- where the inner loop begins: behind all items where x is above them, and else at the first
-module _ (x : ℕ) (l : List ℕ) (i top : ℕ) (u : Under l i top) (within : i ≤ length l) (t j : ℕ) where
-  pub begin-past : top < x → t ≡ x → j ≡ i → (j ≤ i) × (has x (take i l) ≡ has x (slice j i l)) × (x ≤ t) × Under l i t
-  begin-past h e e' =
-      (omega arith, rw (e', slice_empty i l) (none x l i (λ k p. omega (arith, u k p)) within), omega arith, λ k p. omega (arith, u k p))
+pub under_more : (l : List ℕ) (i top : ℕ) → Under l i top → Under l (i + 1) (max top (get_or l i 0))
+under_more l i top u k p = ⊎_elim (λ (e : k ≡ i). rw e (omega arith)) (λ (q : k < i). omega (arith, u k q)) (eq-or-lt_of_le (omega (arith, p)))
 
-  pub begin-first : x ≤ top → t ≡ top → j ≡ 0 → (j ≤ i) × (has x (take i l) ≡ has x (slice j i l)) × (x ≤ t) × Under l i t
-  begin-first h e e' = (omega arith, rw e' refl, omega arith, rw e u)
+-- ---- the inner loop begins behind all items before `i` where x is above them, and else at the first
 
-pub under_more : (l : List ℕ) (i top : ℕ) → Under l i top → get_or l i 0 ≤ top → Under l (i + 1) top
-under_more l i top u h k p = ⊎_elim (λ (e : k ≡ i). rw e h) (λ (q : k < i). u k q) (eq-or-lt_of_le (omega (arith, p)))
+module _ (x : ℕ) (l : List ℕ) (i first : ℕ) where
+  pub begin_past : (top : ℕ) → Under l i top → i ≤ length l → top < x → first ≡ i → has x (take i l) ≡ has x (take (i - first) (drop first l))
+  begin_past top u within h e = let z : i - i ≡ 0 = omega arith in rw (e, z) (none x l i (λ k p. omega (arith, u k p)) within)
 
--- The inner loop: whether x stands among the first i. `rest` is its invariant.
-module _ (x : ℕ) (l : List ℕ) (j i : ℕ) (rest : has x (take i l) ≡ has x (slice j i l)) where
-  pub scan-miss : j < i → i ≤ length l → (get_or l j 0 ≡ x → ⊥) → has x (take i l) ≡ has x (slice (j + 1) i l)
-  scan-miss below within other = rw (rest, add-one, slice-cons j i l 0 below within, ne_eqb _ _ other)
+  pub begin_first : first ≡ 0 → has x (take i l) ≡ has x (take (i - first) (drop first l))
+  begin_first e = rw (e, sub-zero)
 
-  pub scan-hit : j < i → i ≤ length l → get_or l j 0 ≡ x → has x (take i l) ≡ true
-  scan-hit below within same = rw (rest, slice-cons j i l 0 below within, eq-eqb _ _ same)
+-- ---- does x stand in l from k on?
 
-  pub scan-none : i ≤ j → j ≤ i → has x (take i l) ≡ false
-  scan-none a b = let e : j ≡ i = omega arith in rw (rest, e, slice_empty i l)
+module _ (x : ℕ) (l : List ℕ) (k : ℕ) where
+  pub scan_miss : k < length l → (get_or l k 0 ≡ x → ⊥) → has x (drop k l) ≡ has x (drop (k + 1) l)
+  scan_miss h other = rw (add-one, drop-cons l k 0, ne_eqb _ _ other)
 
-pub items-next : (side : Side) (id : ℕ) (l : List ℕ) (i : ℕ) → i < length l
-    → items_from side id (take i l) (drop i l)
-    ≡ ◌then◌ (when (eqb (get_or l i 0) id) (Refused (SelfEdge id)))
-    (◌then◌ (when (has (get_or l i 0) (take i l)) (Refused (duplicate side id (get_or l i 0))))
-    (items_from side id (take (i + 1) l) (drop (i + 1) l)))
-unfolding items_from
-items-next side id l i h = rw (add-one, drop-cons l i 0, take-suc l i 0)
+  pub scan_hit : k < length l → get_or l k 0 ≡ x → has x (drop k l) ≡ true
+  scan_hit h same = rw (drop-cons l k 0, eq-eqb _ _ same)
 
--- The ways out of the outer loop, and its next turn. `rest` is the loop's invariant.
-module _ (side : Side) (id : ℕ) (l : List ℕ) (i : ℕ) (rest : list_rule side id l ≡ items_from side id (take i l) (drop i l)) where
-  pub items-end : length l ≤ i → Accepted ≡ list_rule side id l
-  unfolding list_rule items_from
-  items-end h = rw (rest, drop_of_length-le l h)
+  pub scan_none : length l ≤ k → has x (drop k l) ≡ false
+  scan_none h = rw (drop_of_length-le l h)
+
+-- ---- the ways out of the outer loop, and its next turn: `rest` is the loop's invariant
+
+module _ (id : ℕ) (l : List ℕ) (i : ℕ) (rest : fault_of id l ≡ fault_from id (take i l) (drop i l)) where
+  pub fault_end : length l ≤ i → fault_of id l ≡ Ok tt
+  unfolding fault_from
+  fault_end h = rw (rest, drop_of_length-le l h)
 
   module _ (below : i < length l) where
-    pub items-self : (r : Judged) → r ≡ Refused (SelfEdge id) → get_or l i 0 ≡ id → r ≡ list_rule side id l
-    items-self r e same = rw (e, rest, items-next side id l i below, eq-eqb _ _ same)
+    next : fault_of id l ≡
+        cond (eqb (get_or l i 0) id) (Err SelfEdge)
+        (cond (has (get_or l i 0) (take i l)) (Err (Duplicate (get_or l i 0)))
+        (fault_from id (take (i + 1) l) (drop (i + 1) l)))
+    unfolding fault_from
+    next = rw (rest, add-one, drop-cons l i 0, take-suc l i 0)
 
-    pub items-double : (r : Refusal) → r ≡ duplicate side id (get_or l i 0) → (get_or l i 0 ≡ id → ⊥) → has (get_or l i 0) (take i l) ≡ true → Refused r ≡ list_rule side id l
-    items-double r e other dup = rw (e, rest, items-next side id l i below, ne_eqb _ _ other, dup)
+    pub fault_self : get_or l i 0 ≡ id → fault_of id l ≡ Err SelfEdge
+    fault_self same = rw (next, eq-eqb _ _ same)
 
-    pub items_more : (get_or l i 0 ≡ id → ⊥) → has (get_or l i 0) (take i l) ≡ false
-        → list_rule side id l ≡ items_from side id (take (i + 1) l) (drop (i + 1) l)
-    items_more other new = rw (rest, items-next side id l i below, ne_eqb _ _ other, new)
+    module _ (other : get_or l i 0 ≡ id → ⊥) where
+      pub fault_double : has (get_or l i 0) (take i l) ≡ true → fault_of id l ≡ Err (Duplicate (get_or l i 0))
+      fault_double dup = rw (next, ne_eqb _ _ other, dup)
+
+      pub fault_more : has (get_or l i 0) (take i l) ≡ false → fault_of id l ≡ fault_from id (take (i + 1) l) (drop (i + 1) l)
+      fault_more new = rw (next, ne_eqb _ _ other, new)
+
+-- ---- the rule's refusal is that of the fault
+
+abbrev told : Side → ℕ → Faulted → Judged
+told side id (Ok tt) = Accepted
+told side id (Err SelfEdge) = Refused (R.SelfEdge id)
+told side id (Err (Duplicate x)) = Refused (duplicate side id x)
+
+told-next : (side : Side) (id x : ℕ) (own before : Bool) (f : Faulted) (rest : Judged) → told side id f ≡ rest
+    → told side id (cond own (Err SelfEdge) (cond before (Err (Duplicate x)) f))
+    ≡ when own (Refused (R.SelfEdge id)) then when before (Refused (duplicate side id x)) then rest
+told-next side id x true before f rest e = refl
+told-next side id x false true f rest e = refl
+told-next side id x false false f rest e = e
+
+told_items : (side : Side) (id : ℕ) (before list : List ℕ) → told side id (fault_from id before list) ≡ items_from side id before list
+unfolding fault_from items_from
+told_items side id before [] = refl
+told_items side id before (x ∷ xs) = told-next side id x (eqb x id) (has x before) _ _ (told_items side id (before ++ (x ∷ [])) xs)
+
+pub list_told : (side : Side) (id : ℕ) (list : List ℕ) (f : Faulted) (r : Judged) → f ≡ fault_of id list → r ≡ told side id f → r ≡ list_rule side id list
+unfolding fault_of list_rule
+list_told side id list f r e v = rw (v, e, told_items side id [] list)

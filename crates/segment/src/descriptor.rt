@@ -9,9 +9,9 @@ ghost use Rattle.rules.specs.Descriptor as Rule;
 ghost use Rattle.segment.specs.Words.{bad_words, joined_descriptor, words_rule};
 
 use answers::Refusal;
-use types::range::{KeyRange, Made};
+use types::range::{KeyRange, RangeError};
 use types::records::{Broker, Optional, SegmentDescriptor, SegmentId, SegmentInfo};
-use types::state::{SegmentState, StateRead};
+use types::state::{SegmentState, UnknownState};
 
 // Hash and state words are 32-bit numbers on the wire.
 const MAX_WORD: u64 = 4294967295;
@@ -19,35 +19,36 @@ const MAX_WORD: u64 = 4294967295;
 fn is_empty_text(text: Optional) -> bool
     ensures { result ≡ empty_text (optional text.flag text.word) }
 {
-    if text.flag == 0 {
-        return false;
-    }
-    text.word == 0
+    text.flag != 0 && text.word == 0
 }
 
 // 10 to 12.
+#[tactic(auto, unfolding(rules::specs::Rows::range_rule))]
 fn judge_range(id: SegmentId, start: u64, end: u64) -> Result<(), Refusal>
     ensures { result ≡ range_rule id.0 (range_of start end) }
 {
     match KeyRange::new(start, end) {
-        Made::StartOutOfBounds(s) => Err(Refusal::StartOutOfBounds { id: id.0, value: s }),
-        Made::EndOutOfBounds(e) => Err(Refusal::EndOutOfBounds { id: id.0, value: e }),
-        Made::Reversed(s, e) => Err(Refusal::Reversed {
+        Ok(_) => Ok(()),
+        Err(RangeError::StartOutOfBounds(value)) => {
+            Err(Refusal::StartOutOfBounds { id: id.0, value })
+        }
+        Err(RangeError::EndOutOfBounds(value)) => Err(Refusal::EndOutOfBounds { id: id.0, value }),
+        Err(RangeError::Reversed { start, end }) => Err(Refusal::Reversed {
             id: id.0,
-            start: s,
-            end: e,
+            start,
+            end,
         }),
-        Made::Range(_) => Ok(()),
     }
 }
 
 // 13.
+#[tactic(auto, unfolding(rules::specs::Rows::state_rule))]
 fn judge_state(id: SegmentId, state: u64) -> Result<(), Refusal>
     ensures { result ≡ state_rule id.0 (state_of state) }
 {
     match SegmentState::from_word(state) {
-        StateRead::Known(_) => Ok(()),
-        StateRead::Unknown(word) => Err(Refusal::UnknownState { id: id.0, word }),
+        Ok(_) => Ok(()),
+        Err(UnknownState(word)) => Err(Refusal::UnknownState { id: id.0, word }),
     }
 }
 
@@ -70,25 +71,15 @@ pub fn judge_descriptor(
 }
 
 // 1, of the row's words.
+#[tactic(auto, unfolding(crate::specs::Words::bad_words))]
 fn is_bad_words(start: u64, end: u64, state: u64, sealed: u64, legacy: u64) -> bool
     ensures { result ≡ bad_words start end state sealed legacy }
 {
-    if start > MAX_WORD {
-        return true;
-    }
-    if end > MAX_WORD {
-        return true;
-    }
-    if state > MAX_WORD {
-        return true;
-    }
-    if sealed > 1 {
-        return true;
-    }
-    legacy > 1
+    start > MAX_WORD || end > MAX_WORD || state > MAX_WORD || sealed > 1 || legacy > 1
 }
 
 // 1, of the placement's.
+#[tactic(auto, unfolding(rules::specs::Descriptor::bad_placed))]
 fn is_bad_placed(placed: Option<Broker>) -> bool
     ensures { result ≡ Rule.bad_placed placed }
 {
@@ -109,10 +100,7 @@ fn is_bad_call(
 ) -> bool
     ensures { result ≡ bad_words start end state sealed legacy || Rule.bad_placed placed }
 {
-    if is_bad_words(start, end, state, sealed, legacy) {
-        return true;
-    }
-    is_bad_placed(placed)
+    is_bad_words(start, end, state, sealed, legacy) || is_bad_placed(placed)
 }
 
 // 36, of a placement with the id `other`.
@@ -129,6 +117,7 @@ fn judge_same(id: SegmentId, other: u64) -> Result<(), Refusal>
 }
 
 // 36.
+#[tactic(auto, unfolding(rules::specs::Descriptor::joined_rule))]
 fn judge_joined(id: SegmentId, placed: Option<Broker>) -> Result<(), Refusal>
     ensures { result ≡ Rule.joined_rule id.0 placed }
 {
@@ -155,6 +144,7 @@ fn judge_joined_descriptor(
 }
 
 // 1, 36, 9 to 13.
+#[tactic(auto, unfolding(crate::specs::Words::words_rule))]
 fn judge_words(
     id: SegmentId,
     start: u64,
@@ -236,6 +226,7 @@ fn hold(info: SegmentInfo, placed: Option<Broker>) -> SegmentDescriptor
 }
 
 // The descriptor call: the held row of a segment row and of the placement that is joined to it.
+#[tactic(auto, using(crate::proofs::Descriptors::described_held))]
 pub fn describe(info: SegmentInfo, placed: Option<Broker>) -> Result<SegmentDescriptor, Refusal>
     ensures { result ≡ Rule.describe info placed }
 {

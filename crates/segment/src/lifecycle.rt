@@ -8,6 +8,7 @@ use types::records::{Optional, SegmentId};
 use types::state::SegmentState;
 
 // 15 and 16.
+#[tactic(auto, unfolding(rules::specs::Rows::active_rule))]
 fn judge_active(id: SegmentId, sealed: Optional, children: u64) -> Result<(), Refusal>
     ensures { result ≡ active_rule id.0 (optional sealed.flag sealed.word) children }
 {
@@ -24,21 +25,14 @@ fn judge_active(id: SegmentId, sealed: Optional, children: u64) -> Result<(), Re
 }
 
 // 17 and 18.
+#[tactic(auto, unfolding(rules::specs::Rows::sealed_rule))]
 fn judge_sealed(layout: u64, id: SegmentId, created: u64, sealed: Optional) -> Result<(), Refusal>
     ensures { result ≡ sealed_rule layout id.0 created (optional sealed.flag sealed.word) }
 {
     if sealed.flag == 0 {
         return Err(Refusal::SealedWithoutEpoch { id: id.0 });
     }
-    if sealed.word < created {
-        return Err(Refusal::InvalidSealEpoch {
-            id: id.0,
-            created,
-            sealed: sealed.word,
-            layout,
-        });
-    }
-    if layout < sealed.word {
+    if sealed.word < created || layout < sealed.word {
         return Err(Refusal::InvalidSealEpoch {
             id: id.0,
             created,
@@ -50,6 +44,7 @@ fn judge_sealed(layout: u64, id: SegmentId, created: u64, sealed: Optional) -> R
 }
 
 // 14 to 18.
+#[tactic(auto, unfolding(rules::specs::Rows::lifecycle_rule, rules::specs::Rows::state_lifecycle))]
 pub fn judge_lifecycle(
     layout: u64,
     id: SegmentId,

@@ -3,6 +3,7 @@ ghost use Rattle.std.specs.Prelude.{◌≡◌, ◌||◌, ◌+◌, ◌*◌, ◌�
 ghost use Rattle.rules.specs.Tables.{row_width, held_width, place_width, head_width};
 ghost use Rattle.rules.specs.Shape.{bad_head, bad_place, bad_held_row, any_bad, wrong_counts};
 ghost use Rattle.shape.specs.Next.{bad_next};
+ghost use Rattle.shape.specs.Kinds.{width_of, bad_row};
 
 const WORD: u64 = 4294967295;
 
@@ -44,40 +45,46 @@ fn is_bad_next(rows: &[u64], w: usize) -> bool
     is_bad_held_row(rows, w) || w >= rules::HELD && rows[w] <= rows[w - rules::HELD]
 }
 
-// The three scans differ in the row test alone.
-#[tactic(auto, using(crate::proofs::Scan::any_next))]
-pub(crate) fn has_bad_head(rows: &[u64], n: usize) -> bool
-    requires { n * row_width ≤ length rows.now }
-    ensures { result ≡ any_bad bad_head row_width rows.now n 0 }
-{
-    for i in 0..n {
-        if is_bad_head(rows, i * rules::ROW) {
-            return true;
-        }
-    }
-    false
+// What the rows of a table are; of held rows, each is asked beside the one before it.
+#[derive(Clone, Copy, PartialEq, Eq, Debug)]
+pub(crate) enum Kind {
+    Segment,
+    Place,
+    Held,
 }
 
-#[tactic(auto, using(crate::proofs::Scan::any_next))]
-pub(crate) fn has_bad_place(places: &[u64], m: usize) -> bool
-    requires { m * place_width ≤ length places.now }
-    ensures { result ≡ any_bad bad_place place_width places.now m 0 }
-{
-    for i in 0..m {
-        if is_bad_place(places, i * rules::PLACE) {
-            return true;
+impl Kind {
+    pub(crate) fn width(self) -> usize
+        ensures { result ≡ width_of self }
+    {
+        match self {
+            Kind::Segment => rules::ROW,
+            Kind::Place => rules::PLACE,
+            Kind::Held => rules::HELD,
         }
     }
-    false
+
+    fn is_bad(self, rows: &[u64], w: usize) -> bool
+        requires { w + width_of self ≤ length rows.now }
+        ensures { result ≡ bad_row self rows.now w }
+    {
+        match self {
+            Kind::Segment => is_bad_head(rows, w),
+            Kind::Place => is_bad_place(rows, w),
+            Kind::Held => is_bad_next(rows, w),
+        }
+    }
 }
 
+// Is one of the n rows bad?
 #[tactic(auto, using(crate::proofs::Scan::any_next))]
-pub(crate) fn has_bad_next(rows: &[u64], n: usize) -> bool
-    requires { n * held_width ≤ length rows.now }
-    ensures { result ≡ any_bad bad_next held_width rows.now n 0 }
+pub(crate) fn has_bad_row(kind: Kind, rows: &[u64], n: usize) -> bool
+    requires { n * width_of kind ≤ length rows.now }
+    ensures { result ≡ any_bad (bad_row kind) (width_of kind) rows.now n 0 }
 {
+    let width = kind.width();
     for i in 0..n {
-        if is_bad_next(rows, i * rules::HELD) {
+        if kind.is_bad(rows, i * width) {
             return true;
         }
     }
@@ -111,7 +118,8 @@ pub(crate) fn has_wrong_counts(rows: &[u64], n: usize, len: usize) -> bool
     left != 0
 }
 
-// Both questions of n held rows in one pass, since many rows cost what it takes to fetch them: a bad one, or counts that don't make `len` words.
+// Both questions of n held rows: a bad one, or counts that don't make `len` words. Not the two scans above one after the other: many rows cost
+// what it takes to fetch them, so they are read in one pass.
 #[tactic(auto, using(crate::proofs::Counts::counts_over, crate::proofs::Counts::counts_end))]
 pub(crate) fn has_bad_next_or_counts(rows: &[u64], n: usize, len: usize) -> bool
     requires { n * held_width ≤ length rows.now }

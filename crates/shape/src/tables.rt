@@ -1,24 +1,16 @@
 // Refusal 1: what no tables of document 01 are.
 ghost use Rattle.std.specs.Prelude.{◌≡◌};
-ghost use Rattle.rules.specs.Tables.{row_width, place_width};
-ghost use Rattle.rules.specs.Shape.{bad_head, bad_place, bad_table, bad_layout, bad_held_rows, bad_held};
+ghost use Rattle.rules.specs.Shape.{bad_table, bad_layout, bad_held_rows, bad_held};
+ghost use Rattle.shape.specs.Kinds.{width_of, bad_row};
 
-use crate::rows::{
-    has_bad_head, has_bad_next, has_bad_next_or_counts, has_bad_place, has_wrong_counts,
-};
+use crate::rows::{Kind, has_bad_next_or_counts, has_bad_row, has_wrong_counts};
 
 #[tactic(auto, unfolding(rules::specs::Shape::bad_table))]
-fn is_bad_segment_table(rows: &[u64]) -> bool
-    ensures { result ≡ bad_table bad_head row_width rows.now }
+fn is_bad_table(kind: Kind, rows: &[u64]) -> bool
+    ensures { result ≡ bad_table (bad_row kind) (width_of kind) rows.now }
 {
-    rows.len() % rules::ROW != 0 || has_bad_head(rows, rows.len() / rules::ROW)
-}
-
-#[tactic(auto, unfolding(rules::specs::Shape::bad_table))]
-fn is_bad_place_table(places: &[u64]) -> bool
-    ensures { result ≡ bad_table bad_place place_width places.now }
-{
-    places.len() % rules::PLACE != 0 || has_bad_place(places, places.len() / rules::PLACE)
+    let width = kind.width();
+    rows.len() % width != 0 || has_bad_row(kind, rows, rows.len() / width)
 }
 
 // The tables of a layout: segment rows, edge words, placement rows.
@@ -26,9 +18,9 @@ fn is_bad_place_table(places: &[u64]) -> bool
 pub fn is_bad_layout(rows: &[u64], edges: &[u64], places: &[u64]) -> bool
     ensures { result ≡ bad_layout rows.now edges.now places.now }
 {
-    is_bad_segment_table(rows)
+    is_bad_table(Kind::Segment, rows)
         || has_wrong_counts(rows, rows.len() / rules::ROW, edges.len())
-        || is_bad_place_table(places)
+        || is_bad_table(Kind::Place, places)
 }
 
 // n held rows at the front of an area. The area is compared by division, since n rows may have more words than a number here can say.
@@ -36,7 +28,7 @@ pub fn is_bad_layout(rows: &[u64], edges: &[u64], places: &[u64]) -> bool
 pub fn is_bad_held_rows(rows: &[u64], n: usize) -> bool
     ensures { result ≡ bad_held_rows rows.now n }
 {
-    rows.len() / rules::HELD < n || has_bad_next(rows, n)
+    rows.len() / rules::HELD < n || has_bad_row(Kind::Held, rows, n)
 }
 
 // n held rows with e edge words.

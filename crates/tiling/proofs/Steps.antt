@@ -25,18 +25,6 @@ use Rattle.answers.specs.declared.Refusal.TheVariants.{ActiveCoverageEnd, NoActi
 
 -- ---- a misfit
 
-pub misfit-start : (x last s e : ℕ) → (s ≡ x → ⊥) → true ≡ misfit x last s e
-unfolding misfit
-misfit-start x last s e h = rw (ne_eqb s x h)
-
-pub misfit-short : (x last s e : ℕ) → s ≡ x → e < s → true ≡ misfit x last s e
-unfolding misfit
-misfit-short x last s e p h = rw (eq-eqb s x p, lt-ltb e s h)
-
-pub misfit-end : (x last s e : ℕ) (b : Bool) → s ≡ x → s ≤ e → b ≡ ltb last e → b ≡ misfit x last s e
-unfolding misfit
-misfit-end x last s e b p h v = rw (v, eq-eqb s x p, le-ltb e s h)
-
 or_right : (a b : Bool) → a || b ≡ false → b ≡ false
 or_right true b e = let z : true ≡ false = e in cc
 or_right false b e = e
@@ -93,13 +81,6 @@ next_fits x last s e t said told other fits = let h : e ≤ last = fit-end x las
 
 -- ---- the callers
 
-pub told-rule : (w told : Walked) (r : Judged) → w ≡ told → r ≡ walked_rule told → r ≡ walked_rule w
-told-rule w told r k v = rw (v, k)
-
-pub told-short : (w : Walked) (x b : ℕ) (r : Judged) → w ≡ Short x → b ≡ x - 1 → r ≡ Refused (ActiveCoverageEnd b 65535) → r ≡ walked_rule w
-unfolding walked_rule
-told-short w x b r k e v = rw (v, k, e)
-
 none_rows : (a : List ℕ) (n : ℕ) → length a ≡ 3 * n → (n ≡ 0 → ⊥) → none (rows a) ≡ false
 none_rows a n l h = by (rows a) (rows-length a n l)
   where
@@ -107,11 +88,20 @@ none_rows a n l h = by (rows a) (rows-length a n l)
     by [] e = absurd (h (sym e))
     by (x ∷ r) e = refl
 
+not_tiled : (w : Walked) → (w ≡ Tiled → ⊥) → false ≡ is_tiled w
+not_tiled Tiled h = absurd (h refl)
+not_tiled (Broken x start id) h = refl
+not_tiled (Short x) h = refl
+
 -- k is what the sort left of l
 module _ (l k : List ℕ) (n : ℕ) (len : length l ≡ 3 * n) (s : rows k ≡ sorted le3 (rows l)) where
   pub covers-told : (first last : ℕ) (w told : Walked) (b : Bool) → w ≡ walk_from last first (rows k) → w ≡ told → b ≡ is_tiled told → b ≡ tiles first last (rows l)
   unfolding tiles walked
   covers-told first last w told b said is v = rw (v, ← is, said, s) refl
+
+  pub covers-not : (first last : ℕ) (w : Walked) → w ≡ walk_from last first (rows k) → (w ≡ Tiled → ⊥) → false ≡ tiles first last (rows l)
+  unfolding tiles walked
+  covers-not first last w said other = rw (← s, ← said) (not_tiled w other)
 
   pub coverage-walk : (w : Walked) (r : Judged) → (n ≡ 0 → ⊥) → w ≡ walk_from 65535 0 (rows k) → r ≡ walked_rule w → r ≡ coverage_rule (rows l)
   unfolding coverage_rule walked

@@ -9,16 +9,11 @@ ghost use Rattle.rules.specs.Tiling.{misfit, walk_end, walk_from, tiles, walked_
 use answers::Refusal;
 use rules::Walked;
 
+#[tactic(auto, unfolding(rules::specs::Tiling::misfit))]
 fn is_misfit(expected: u64, last: u64, start: u64, end: u64) -> bool
     ensures { result ≡ misfit expected last start end }
 {
-    if start != expected {
-        return true;
-    }
-    if end < start {
-        return true;
-    }
-    last < end
+    start != expected || end < start || last < end
 }
 
 // The target's end was reached before row i: no row may be left.
@@ -39,8 +34,7 @@ fn walk(a: &[u64], n: usize, first: u64, last: u64) -> Walked
     ensures { result ≡ walk_from last first (rows a.now) }
 {
     let mut expected = first;
-    let mut i = 0;
-    while i < n {
+    for i in 0..n {
         let p = 3 * i;
         let start = a[p];
         let end = a[p + 1];
@@ -51,7 +45,6 @@ fn walk(a: &[u64], n: usize, first: u64, last: u64) -> Walked
             return walk_end(a, n, i + 1, last);
         }
         expected = end + 1;
-        i += 1;
     }
     Walked::Short(expected)
 }
@@ -62,24 +55,11 @@ pub fn covers(a: &mut [u64], n: usize, first: u64, last: u64) -> bool
     ensures { result ≡ tiles first last (rows a.old) }
 {
     sorts::sort3(a, n);
-    match walk(a, n, first, last) {
-        Walked::Tiled => true,
-        Walked::Broken(_, _, _) => false,
-        Walked::Short(_) => false,
-    }
-}
-
-// The hash before that one; 0 before 0.
-fn before(hash: u64) -> u64
-    ensures { result ≡ hash - 1 }
-{
-    if hash == 0 {
-        return 0;
-    }
-    hash - 1
+    matches!(walk(a, n, first, last), Walked::Tiled)
 }
 
 // 34, 35.
+#[tactic(auto, unfolding(rules::specs::Tiling::walked_rule))]
 fn judge_walked(walked: Walked) -> Result<(), Refusal>
     ensures { result ≡ walked_rule walked }
 {
@@ -91,7 +71,7 @@ fn judge_walked(walked: Walked) -> Result<(), Refusal>
             id,
         }),
         Walked::Short(expected) => Err(Refusal::ActiveCoverageEnd {
-            actual: before(expected),
+            actual: expected.saturating_sub(1),
             expected: 65535,
         }),
     }

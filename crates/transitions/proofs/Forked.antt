@@ -20,10 +20,11 @@ use Rattle.rules.specs.Tables.{held_width, parents_at, children_at}
 use Rattle.types.specs.declared.records.Side.TheVariants.{Parents, Children}
 use Rattle.rules.specs.Tiling.{parent_count, all_single, one_merged, tiling_rule, split_rule, fork_rule, join_rule}
 use Rattle.tabled.specs.Image.{Image, image_segments}
-use Rattle.transitions.specs.Edged.{segment_of, Edged}
+use Rattle.transitions.specs.Edged.{segment_of, tiled_by, Edged}
 use Rattle.transitions.proofs.Rowed.{row-id, found_none, found-row, found_some, parents-length, children-length}
 use Rattle.transitions.proofs.Edges.{parents-same}
-use Rattle.answers.specs.declared.Refusal.TheVariants.{ConflictingTopology}
+use Rattle.transitions.proofs.Lent.{tiling-no}
+use Rattle.answers.specs.declared.Refusal.TheVariants.{ConflictingTopology, InvalidSplitCoverage, InvalidMergeCoverage}
 
 -- ---- the parents of the segment with an id
 
@@ -95,6 +96,12 @@ module _ (ss : List Segment) (s : Segment) (list : List ℕ) (same : list ≡ s.
     unfolding split_rule
     split-refused told v = rw (← same, ← single, no, ← merged, told) v
 
+pub split-uncovered : (w list : List ℕ) (n e i : ℕ) → i < n → list ≡ (segment_of w n e i).children → (b t : Bool) → b ≡ all_single (image_segments w n e) list → b ≡ true
+    → t ≡ tiled_by (image_segments w n e) (segment_of w n e i) list → t ≡ false → (r : Judged) → r ≡ Refused (InvalidSplitCoverage (get_or w (i * held_width) 0)) → r ≡ split_rule (image_segments w n e) (segment_of w n e i)
+split-uncovered w list n e i below same b t single all tiled off r v =
+    split-tiles (image_segments w n e) (segment_of w n e i) list same r b single all
+    (v ∙ ap (λ (x : ℕ). Refused (InvalidSplitCoverage x)) (sym (row-id w n i below)) ∙ tiling-no Children (image_segments w n e) (segment_of w n e i) list t tiled off)
+
 pub split-conflict : (w list : List ℕ) (n e i : ℕ) → i < n → list ≡ (segment_of w n e i).children → (b m : Bool) → b ≡ all_single (image_segments w n e) list → b ≡ false
     → m ≡ one_merged (image_segments w n e) list → m ≡ false → (r : Judged) → r ≡ Refused (ConflictingTopology (get_or w (i * held_width) 0)) → r ≡ split_rule (image_segments w n e) (segment_of w n e i)
 split-conflict w list n e i below same b m single off merged two r v =
@@ -128,3 +135,10 @@ module _ (w : List ℕ) (n e i start at count : ℕ) (g : Edged w n e i start at
     pub join-some : 1 < count → r ≡ tiling_rule Parents (image_segments w n e) (segment_of w n e i) (part w start count) → r ≡ join_rule (image_segments w n e) (segment_of w n e i)
     unfolding join_rule
     join-some h v = rw (size, lt-ltb 1 count h) (v ∙ ap (tiling_rule Parents (image_segments w n e) (segment_of w n e i)) (parents-same w n e i start at g count said))
+
+    pub join-uncovered : 1 < count → (t : Bool) → t ≡ tiled_by (image_segments w n e) (segment_of w n e i) (part w start count) → t ≡ false
+        → r ≡ Refused (InvalidMergeCoverage (get_or w (i * held_width) 0)) → r ≡ join_rule (image_segments w n e) (segment_of w n e i)
+    join-uncovered h t tiled off v =
+        join-some h
+        (v ∙ ap (λ (x : ℕ). Refused (InvalidMergeCoverage x)) (sym (row-id w n i g.row))
+        ∙ tiling-no Parents (image_segments w n e) (segment_of w n e i) (part w start count) t tiled off)

@@ -10,15 +10,15 @@ use Rattle.words.specs.Part.{part, put}
 use Rattle.words.proofs.PartLaws.{Loan, loan, part-as}
 use Rattle.lists.specs.Sort.{Row}
 use Rattle.sorts.specs.Rows.{rows}
-use Rattle.answers.specs.declared.Refusal.{Refusal}
 use Rattle.answers.specs.Answer.{Judged, Accepted, Refused}
+use Rattle.rules.specs.Model.{Segment}
 use Rattle.rules.specs.Tables.{held_width}
 use Rattle.types.specs.declared.records.Side.{Side}
 use Rattle.rules.specs.Tiling.{tiles, ranges_of, uncovered, tiling_rule, coverage_rule}
 use Rattle.tabled.specs.Image.{image_segments}
 use Rattle.transitions.specs.Ranges.{ranges}
-use Rattle.transitions.specs.Edged.{segment_of}
-use Rattle.transitions.proofs.Rowed.{row_word, row-id}
+use Rattle.transitions.specs.Edged.{segment_of, tiled_by}
+use Rattle.transitions.proofs.Rowed.{row_word}
 
 pub lent-kept : (w₀ w ys : List ℕ) (at k n : ℕ) → k ≤ n → at + 3 * n ≤ length w₀ → length w ≡ length w₀ → length ys ≡ length (part w at (at + 3 * k - at)) → take at w ≡ take at w₀
     → take at (put w at (at + 3 * k - at) ys) ≡ take at w₀
@@ -32,15 +32,20 @@ lent w at k = ap rows (part-as w at (at + 3 * k) (3 * k) refl)
 pub lent-coverage : (w : List ℕ) (at k : ℕ) (l : List Row) (r : Judged) → ranges w at k ≡ l → r ≡ coverage_rule (rows (part w at (at + 3 * k - at))) → r ≡ coverage_rule l
 lent-coverage w at k l r placed v = v ∙ ap coverage_rule (lent w at k ∙ placed)
 
-module _ (side : Side) (w₀ w list : List ℕ) (n e i at k : ℕ) (below : i < n) (placed : ranges w at k ≡ ranges_of (image_segments w₀ n e) list) (b : Bool)
-    (said : b ≡ tiles (get_or w₀ (i * held_width + 1) 0) (get_or w₀ (i * held_width + 2) 0) (rows (part w at (at + 3 * k - at)))) where
-  is : tiles (segment_of w₀ n e i).head.start (segment_of w₀ n e i).head.end (ranges_of (image_segments w₀ n e) list) ≡ b
-  is = rw (row_word w₀ n i 1 below (omega arith), row_word w₀ n i 2 below (omega arith)) (sym (said ∙ ap (tiles (get_or w₀ (i * held_width + 1) 0) (get_or w₀ (i * held_width + 2) 0)) (lent w at k ∙ placed)))
+pub lent-tiled : (w₀ w list : List ℕ) (n e i at k : ℕ) → i < n → ranges w at k ≡ ranges_of (image_segments w₀ n e) list → (b : Bool)
+    → b ≡ tiles (get_or w₀ (i * held_width + 1) 0) (get_or w₀ (i * held_width + 2) 0) (rows (part w at (at + 3 * k - at)))
+    → b ≡ tiled_by (image_segments w₀ n e) (segment_of w₀ n e i) list
+lent-tiled w₀ w list n e i at k below placed b said =
+    rw (row_word w₀ n i 1 below (omega arith), row_word w₀ n i 2 below (omega arith))
+    (said ∙ ap (tiles (get_or w₀ (i * held_width + 1) 0) (get_or w₀ (i * held_width + 2) 0)) (lent w at k ∙ placed))
 
-  pub lent-yes : b ≡ true → Accepted ≡ tiling_rule side (image_segments w₀ n e) (segment_of w₀ n e i) list
-  unfolding tiling_rule
-  lent-yes told = rw (is, told) refl
+-- ---- the rule, by what the test said
 
-  pub lent-no : b ≡ false → (r : Refusal) → r ≡ uncovered side (get_or w₀ (i * held_width) 0) → Refused r ≡ tiling_rule side (image_segments w₀ n e) (segment_of w₀ n e i) list
+module _ (side : Side) (ss : List Segment) (s : Segment) (list : List ℕ) (b : Bool) (said : b ≡ tiled_by ss s list) where
+  pub tiling-yes : b ≡ true → Accepted ≡ tiling_rule side ss s list
   unfolding tiling_rule
-  lent-no told r v = rw (v, is, told, row-id w₀ n i below) refl
+  tiling-yes told = rw (← said, told) refl
+
+  pub tiling-no : b ≡ false → Refused (uncovered side s.head.id) ≡ tiling_rule side ss s list
+  unfolding tiling_rule
+  tiling-no told = rw (← said, told) refl

@@ -1,13 +1,18 @@
 -- A row of the image as the segment that it stands for, and what a judge of one row asks of the work area.
 -- Assumes nothing.
-use Rattle.std.specs.Prelude.{ℕ, ◌+◌, ◌*◌, ◌<◌, ◌≤◌, ◌≡◌, List, length}
+use Rattle.std.specs.Prelude.{ℕ, ◌+◌, ◌*◌, ◌<◌, ◌≤◌, ◌≡◌, Bool, List, length}
 use Rattle.rules.specs.Model.{Segment}
 use Rattle.rules.specs.Tables.{held_width, start_of}
+use Rattle.rules.specs.Tiling.{tiles, ranges_of}
 use Rattle.tabled.specs.Image.{Image, image_rows, image_edges, segment_in}
 
 -- row i of the image
 abbrev pub segment_of : List ℕ → ℕ → ℕ → ℕ → Segment
 segment_of w n e i = segment_in (image_rows w n) (image_edges w n e) i
+
+-- the ranges of the segments with these ids tile the range of s
+abbrev pub tiled_by : List Segment → Segment → List ℕ → Bool
+tiled_by ss s list = tiles s.head.start s.head.end (ranges_of ss list)
 
 -- row i of an image, and ids that it lists, the count words from word `from` on: the image lies before `at`, and there is room for their ranges
 pub record Listed (w : List ℕ) (n e i from count at : ℕ) : Type 0 where

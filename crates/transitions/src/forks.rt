@@ -2,13 +2,12 @@
 ghost use Rattle.std.specs.Prelude.{◌≡◌, Bool, true, false, ◌+◌, ◌*◌, ◌<◌, ◌≤◌, length, take};
 ghost use Rattle.words.specs.Part.{part};
 ghost use Rattle.rules.specs.Model.{lookup};
-ghost use Rattle.rules.specs.Tables.{held_width};
-ghost use Rattle.rules.specs.Tiling.{parent_count, all_single, one_merged, split_rule, fork_rule, forks_from};
+ghost use Rattle.rules.specs.Tiling.{parent_count, all_single, one_merged, split_rule, fork_rule};
 ghost use Rattle.tabled.specs.Image.{Image, image_segments};
 ghost use Rattle.transitions.specs.Edged.{segment_of, Listed, Edged};
 
+use crate::tile::is_tiled;
 use answers::Refusal;
-use types::records::Side;
 
 // How many parents the segment with that id has; 0 where there is none.
 fn parent_count(w: &[u64], n: usize, e: usize, id: u64) -> usize
@@ -43,10 +42,7 @@ fn one_merged(w: &[u64], n: usize, e: usize, from: usize, count: usize) -> bool
     requires count_in_bounds { from + count ≤ length w.now }
     ensures { result ≡ one_merged (image_segments w.now n e) (part w.now from count) }
 {
-    if count != 1 {
-        return false;
-    }
-    1 < parent_count(w, n, e, w[from])
+    count == 1 && 1 < parent_count(w, n, e, w[from])
 }
 
 // Row i, whose children are the count ids from word `from` on.
@@ -64,19 +60,21 @@ fn judge_split(
     ensures value { result ≡ split_rule (image_segments w.old n e) (segment_of w.old n e i) }
     ensures w_unchanged { take at w.new ≡ take at w.old }
 {
+    let id = w[i * rules::HELD];
     if all_single(w, n, e, from, count) {
-        return crate::tile::judge_tiling(Side::Children, w, n, e, i, from, count, at);
+        if is_tiled(w, n, e, i, from, count, at) {
+            return Ok(());
+        }
+        return Err(Refusal::InvalidSplitCoverage { id });
     }
     if one_merged(w, n, e, from, count) {
         return Ok(());
     }
-    Err(Refusal::ConflictingTopology {
-        id: w[i * rules::HELD],
-    })
+    Err(Refusal::ConflictingTopology { id })
 }
 
 // Row i, whose edges begin at word `start`; a segment with no children is no parent.
-fn judge_fork(
+pub(crate) fn judge_fork(
     w: &mut [u64],
     n: usize,
     e: usize,
@@ -94,21 +92,4 @@ fn judge_fork(
         return Ok(());
     }
     judge_split(w, n, e, i, from, count, at)
-}
-
-// Every row in turn, ascending by id.
-pub fn judge_forks(w: &mut [u64], n: usize, e: usize, at: usize) -> Result<(), Refusal>
-    requires image { Image w.old n e }
-    requires e_bound { n * held_width + e ≤ at }
-    requires e_in_bounds { at + 3 * e ≤ length w.old }
-    ensures value { result ≡ forks_from (image_segments w.old n e) (image_segments w.old n e) }
-    ensures w_unchanged { take at w.new ≡ take at w.old }
-{
-    let mut start = n * rules::HELD;
-    for i in 0..n {
-        let end = crate::row::edges_end(w, i, start);
-        judge_fork(w, n, e, i, start, at)?;
-        start = end;
-    }
-    Ok(())
 }

@@ -8,10 +8,13 @@ ghost use Rattle.rules.specs.Tiling.{forks_from, joins_from, active_of, coverage
 ghost use Rattle.answers.specs.Answer.{◌then◌};
 ghost use Rattle.tabled.specs.Image.{Image, image_segments};
 
+use crate::passes::judge_rows;
 use answers::Refusal;
+use types::records::Side;
 
-pub mod forks;
-pub mod joins;
+mod forks;
+mod joins;
+pub mod passes;
 pub mod place;
 pub mod row;
 pub mod tile;
@@ -24,8 +27,8 @@ pub fn judge_transitions(w: &mut [u64], n: usize, e: usize, at: usize) -> Result
     ensures value { result ≡ (forks_from (image_segments w.old n e) (image_segments w.old n e) then joins_from (image_segments w.old n e) (image_segments w.old n e)) }
     ensures w_unchanged { take at w.new ≡ take at w.old }
 {
-    forks::judge_forks(w, n, e, at)?;
-    joins::judge_joins(w, n, e, at)
+    judge_rows(Side::Children, w, n, e, at)?;
+    judge_rows(Side::Parents, w, n, e, at)
 }
 
 // 33 to 35 over the Active segments.

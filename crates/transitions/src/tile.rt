@@ -1,25 +1,11 @@
-// 31 and 32: the ranges of listed segments must tile the range of one.
+// What 31 and 32 ask: do the ranges of listed segments tile the range of one?
 ghost use Rattle.std.specs.Prelude.{◌≡◌, take};
 ghost use Rattle.words.specs.Part.{part};
-ghost use Rattle.rules.specs.Tiling.{uncovered, tiling_rule};
 ghost use Rattle.tabled.specs.Image.{image_segments};
-ghost use Rattle.transitions.specs.Edged.{segment_of, Listed};
+ghost use Rattle.transitions.specs.Edged.{segment_of, tiled_by, Listed};
 
-use answers::Refusal;
-use types::records::Side;
-
-fn uncovered(side: Side, id: u64) -> Refusal
-    ensures { result ≡ uncovered side id }
-{
-    match side {
-        Side::Children => Refusal::InvalidSplitCoverage { id },
-        Side::Parents => Refusal::InvalidMergeCoverage { id },
-    }
-}
-
-// Row i, and the count ids from word `from` on. 31 for children, 32 for parents.
-pub fn judge_tiling(
-    side: Side,
+// The range of row i, by those of the segments whose ids are the count words from word `from` on.
+pub fn is_tiled(
     w: &mut [u64],
     n: usize,
     e: usize,
@@ -27,19 +13,15 @@ pub fn judge_tiling(
     from: usize,
     count: usize,
     at: usize,
-) -> Result<(), Refusal>
+) -> bool
     requires { Listed w.old n e i from count at }
-    ensures value { result ≡ tiling_rule side (image_segments w.old n e) (segment_of w.old n e i) (part w.old from count) }
+    ensures value { result ≡ tiled_by (image_segments w.old n e) (segment_of w.old n e i) (part w.old from count) }
     ensures w_unchanged { take at w.new ≡ take at w.old }
 {
     let t = i * rules::HELD;
-    let id = w[t];
     let first = w[t + rules::START];
     let last = w[t + rules::END];
     let k = crate::place::place_listed(w, n, e, from, count, at);
     let stop = at + 3 * k;
-    if tiling::covers(&mut w[at..stop], k, first, last) {
-        return Ok(());
-    }
-    Err(uncovered(side, id))
+    tiling::covers(&mut w[at..stop], k, first, last)
 }

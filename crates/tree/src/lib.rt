@@ -12,6 +12,7 @@ fn lift(t: &mut [u64], n: usize, from: usize)
     ensures { Tree n t.new × (drop n t.new ≡ drop n t.old) }
 {
     let mut k = from / 2;
+    // A `while`: k halves, and no range of std does.
     while 0 < k {
         t[k] = t[2 * k].min(t[2 * k + 1]);
         k = k / 2;

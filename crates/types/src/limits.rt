@@ -1,6 +1,6 @@
 // `DagLimits` of dag_watch.rs: how large a layout may be. Callers may give others than the default.
 #[repr(C)]
-#[derive(Clone, Copy)]
+#[derive(Clone, Copy, PartialEq, Eq, Debug)]
 pub struct DagLimits {
     pub segments: u64,
     pub edges: u64,

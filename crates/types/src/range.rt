@@ -4,19 +4,18 @@ ghost use Rattle.types.specs.Range.{range_of, width_of, is_empty, holds, holds_a
 
 const MAX_HASH: u64 = 65535;
 
-#[derive(Clone, Copy)]
+#[derive(Clone, Copy, PartialEq, Eq, Debug)]
 pub struct KeyRange {
     pub start: u64,
     pub end: u64,
 }
 
-// What `KeyRange::new` answers; `range_number` and `range_values` of specs/ say which refusal that is.
-#[derive(Clone, Copy)]
-pub enum Made {
-    Range(KeyRange),
+// Why two hashes make no range; `range_number` and `range_values` of specs/ say which refusal each case is.
+#[derive(Clone, Copy, PartialEq, Eq, Debug)]
+pub enum RangeError {
     StartOutOfBounds(u64),
     EndOutOfBounds(u64),
-    Reversed(u64, u64),
+    Reversed { start: u64, end: u64 },
 }
 
 impl KeyRange {
@@ -27,19 +26,19 @@ impl KeyRange {
     };
 
     // 10, 11, 12, without the id.
-    pub fn new(start: u64, end: u64) -> Made
+    pub fn new(start: u64, end: u64) -> Result<KeyRange, RangeError>
         ensures { result ≡ range_of start end }
     {
         if start > MAX_HASH {
-            return Made::StartOutOfBounds(start);
+            return Err(RangeError::StartOutOfBounds(start));
         }
         if end > MAX_HASH {
-            return Made::EndOutOfBounds(end);
+            return Err(RangeError::EndOutOfBounds(end));
         }
         if end < start {
-            return Made::Reversed(start, end);
+            return Err(RangeError::Reversed { start, end });
         }
-        Made::Range(KeyRange { start, end })
+        Ok(KeyRange { start, end })
     }
 
     pub fn start(self) -> u64
@@ -58,13 +57,7 @@ impl KeyRange {
     pub fn len(self) -> u64
         ensures { result ≡ width_of self }
     {
-        if self.start > MAX_HASH {
-            return 0;
-        }
-        if self.end > MAX_HASH {
-            return 0;
-        }
-        if self.end < self.start {
+        if self.start > MAX_HASH || self.end > MAX_HASH || self.end < self.start {
             return 0;
         }
         self.end - self.start + 1
@@ -99,9 +92,6 @@ impl KeyRange {
     pub fn is_adjacent_to(self, other: KeyRange) -> bool
         ensures { result ≡ touches self other }
     {
-        if self.followed_by(other) {
-            return true;
-        }
-        other.followed_by(self)
+        self.followed_by(other) || other.followed_by(self)
     }
 }

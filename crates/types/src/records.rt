@@ -3,11 +3,11 @@
 use answers::Updated;
 
 // A segment, whatever row it stands in.
-#[derive(Clone, Copy)]
+#[derive(Clone, Copy, PartialEq, Eq, Debug)]
 pub struct SegmentId(pub u64);
 
 // A row of a table, whatever segment stands there.
-#[derive(Clone, Copy)]
+#[derive(Clone, Copy, PartialEq, Eq, Debug)]
 pub struct RowIndex(pub usize);
 
 // Which edges of a segment.
@@ -17,15 +17,16 @@ pub enum Side {
     Children,
 }
 
-// An optional field of a table: a flag (0 absent, 1 present) and a word, which is unread when absent.
-#[derive(Clone, Copy)]
+// An optional field of a table: a flag (0 absent, 1 present) and a word, which is unread when absent. Not an `Option`: a flag of 2 is refused,
+// and so must be told.
+#[derive(Clone, Copy, PartialEq, Eq, Debug)]
 pub struct Optional {
     pub flag: u64,
     pub word: u64,
 }
 
 // A segment row of 11 words, by value.
-#[derive(Clone, Copy)]
+#[derive(Clone, Copy, PartialEq, Eq, Debug)]
 pub struct SegmentInfo {
     pub id: SegmentId,
     pub start: u64,
@@ -39,7 +40,7 @@ pub struct SegmentInfo {
 }
 
 // A placement row of 4 words, by value.
-#[derive(Clone, Copy)]
+#[derive(Clone, Copy, PartialEq, Eq, Debug)]
 pub struct Broker {
     pub id: SegmentId,
     pub url: u64,
@@ -47,7 +48,7 @@ pub struct Broker {
 }
 
 // A held row of 15 words, by value: absent optional words are 0.
-#[derive(Clone, Copy)]
+#[derive(Clone, Copy, PartialEq, Eq, Debug)]
 pub struct SegmentDescriptor {
     pub info: SegmentInfo,
     pub url: Optional,
@@ -55,7 +56,7 @@ pub struct SegmentDescriptor {
 }
 
 // Parent-before-child policy of an ordering query.
-#[derive(Clone, Copy)]
+#[derive(Clone, Copy, PartialEq, Eq, Debug)]
 pub enum OrderingMode {
     // every ancestor must have been owned and completed here
     Strict,
@@ -65,16 +66,16 @@ pub enum OrderingMode {
 
 // One assigned segment, with the range that the assignment gives it.
 #[repr(C)]
-#[derive(Clone, Copy)]
+#[derive(Clone, Copy, PartialEq, Eq, Debug)]
 pub struct Assigned {
     pub id: u64,
     pub start: u32,
     pub end: u32,
 }
 
-// A text that may be absent.
+// A text that may be absent. A flag beside a value, and not an `Option`: C has this layout, as it has that of `Session` and `Update`.
 #[repr(C)]
-#[derive(Clone, Copy)]
+#[derive(Clone, Copy, PartialEq, Eq, Debug)]
 pub struct Name {
     pub present: bool,
     pub text: u64,
@@ -82,7 +83,7 @@ pub struct Name {
 
 // `DagWatchSession` of dag_watch.rs: what is known of one watched topic, but for the held tables, which are lent.
 #[repr(C)]
-#[derive(Clone, Copy)]
+#[derive(Clone, Copy, PartialEq, Eq, Debug)]
 pub struct Session {
     pub id: u64,
     pub held: bool,
@@ -97,7 +98,7 @@ pub struct Session {
 
 // An update of the broker, but for its tables, which are lent. `code` is the signed 32-bit error code, as its 32 bits.
 #[repr(C)]
-#[derive(Clone, Copy)]
+#[derive(Clone, Copy, PartialEq, Eq, Debug)]
 pub struct Update {
     pub session: u64,
     pub layout: bool,

@@ -13,7 +13,7 @@ loop-i-init c =
 pub judge_row-requires : goal.judge_row-requires
 judge_row-requires c =
     let below : c.loop-i.i < c.args.n = omega arith in
-    record { held_width_in_bounds = omega (arith, c.requires.tabled.size); i_lt_n = below; ascends = c.requires.tabled.up; edges_in_table = row_room c.args.table.now c.args.edges.now c.args.n c.requires.tabled c.loop-i.i c.loop-i.at c.loop-i.invariant.1 below; cpairs_len = (c.requires.tells.size, c.requires.tells.order); ppairs_len = (c.requires.tells_2.size, c.requires.tells_2.order) }
+    record { rows_in_table = omega (arith, c.requires.tabled.size); i_lt_n = below; ascends = c.requires.tabled.up; edges_in_table = row_room c.args.table.now c.args.edges.now c.args.n c.requires.tabled c.loop-i.i c.loop-i.at c.loop-i.invariant.1 below; children_paired = (c.requires.children_told.size, c.requires.children_told.order); parents_paired = (c.requires.parents_told.size, c.requires.parents_told.order) }
 
 pub returns-in_err-judge_row : goal.returns-in_err-judge_row
 returns-in_err-judge_row c =
@@ -21,7 +21,7 @@ returns-in_err-judge_row c =
     grind (
       arith,
       links-refused c.args.table.now c.args.edges.now c.args.cpairs.now c.args.ppairs.now c.args.n c.loop-i.i c.loop-i.at c.loop-i.invariant.2 below _ c.judge_row.ensures _ c.in_err-judge_row.was
-          ∙ links-told c.args.table.now c.args.edges.now c.args.n c.requires.tabled c.args.cpairs.now c.args.ppairs.now c.args.kc c.args.kp c.requires.tells c.requires.tells_2,
+          ∙ links-told c.args.table.now c.args.edges.now c.args.n c.requires.tabled c.args.cpairs.now c.args.ppairs.now c.args.kc c.args.kp c.requires.children_told c.requires.parents_told,
     )
 
 pub overflow_add-at-in-loop-i : goal.overflow_add-at-in-loop-i
@@ -40,4 +40,4 @@ loop-i-preserved c =
 pub returns : goal.returns
 returns c =
     links_end c.args.table.now c.args.edges.now c.args.cpairs.now c.args.ppairs.now c.args.n c.loop-i.i c.loop-i.at c.loop-i.invariant.2 (omega arith)
-    ∙ links-told c.args.table.now c.args.edges.now c.args.n c.requires.tabled c.args.cpairs.now c.args.ppairs.now c.args.kc c.args.kp c.requires.tells c.requires.tells_2
+    ∙ links-told c.args.table.now c.args.edges.now c.args.n c.requires.tabled c.args.cpairs.now c.args.ppairs.now c.args.kc c.args.kp c.requires.children_told c.requires.parents_told

@@ -8,6 +8,3 @@ use Rattle.edges.proofs.judge_links.Given as goal
 abbrev pub invariant-loop-i : goal.invariant-loop-i
 invariant-loop-i l =
     (l.i ≤ l.n) × (l.at ≡ start_of held_width l.table l.i) × (rows_links l.table l.edges l.n l.cpairs l.ppairs l.n 0 0 ≡ rows_links l.table l.edges l.n l.cpairs l.ppairs (l.n - l.i) l.i l.at)
-
-abbrev pub decreases-loop-i : goal.decreases-loop-i
-decreases-loop-i l = l.n - l.i

@@ -1,13 +1,9 @@
--- `edges::judge_list` meets its contract: each need is arithmetic, a law that is imported, or what a callee promised.
-use Prim.Native.Nat.{◌-◌}
+-- `judge_list` meets its contract: what the list is answered is what is answered to the items from here on.
 use mathlib.Core.Path.{◌≡◌}
-use lib.ListN.{length, drop}
+use lib.ListN.{drop}
 use Rattle.edges.specs.Links.{edges_all}
 use Rattle.edges.proofs.judge_list.Given as goal
 
-abbrev pub invariant-loop-j : goal.invariant-loop-j
-invariant-loop-j l =
-    edges_all l.parents l.table l.n l.pairs l.i l.list ≡ edges_all l.parents l.table l.n l.pairs l.i (drop l.j l.list)
-
-abbrev pub decreases-loop-j : goal.decreases-loop-j
-decreases-loop-j l = length l.list - l.j
+abbrev pub invariant-loop-other : goal.invariant-loop-other
+invariant-loop-other l =
+    edges_all l.side l.table l.n l.pairs l.i l.list ≡ edges_all l.side l.table l.n l.pairs l.i (drop l.other-index l.list)

@@ -12,6 +12,3 @@ use Rattle.image.proofs.write_edges.Given as goal
 abbrev pub invariant-loop-p : goal.invariant-loop-p
 invariant-loop-p l = (l.p ≤ l.n) × (length l.w ≡ length l.initial.w) × Indexed (part l.w l.a (3 * l.n)) l.table l.n × (l.at ≡ l.n * held_width + count_of l.table (take l.p (segment_index l.table l.n)))
     × (l.w ≡ put l.initial.w (l.n * held_width) (count_of l.table (take l.p (segment_index l.table l.n))) (key_edges l.table l.edges (take l.p (segment_index l.table l.n))))
-
-abbrev pub decreases-loop-p : goal.decreases-loop-p
-decreases-loop-p l = l.n - l.p

@@ -12,6 +12,3 @@ abbrev pub invariant-loop-p : goal.invariant-loop-p
 invariant-loop-p l =
     (l.p ≤ l.n) × (length l.w ≡ length l.initial.w) × (l.w ≡ put l.initial.w 0 (l.p * held_width) (key_rows l.table (placements l.places l.m) (take l.p (segment_index l.table l.n))))
     × Ready l.w l.table l.n l.places l.m l.a l.b
-
-abbrev pub decreases-loop-p : goal.decreases-loop-p
-decreases-loop-p l = l.n - l.p

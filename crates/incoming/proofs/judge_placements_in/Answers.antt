@@ -3,22 +3,6 @@ use Rattle.incoming.proofs.Staged.{index_stays, places-flagged}
 use borrow.Author.Rules.{rules}
 use Rattle.incoming.proofs.judge_placements_in.Goals as goal
 
--- old need slice-bounds-index-places-start
--- part-index-places-start : tie.Need-slice-bounds-index-places-start
--- part-index-places-start c = search rules
-
--- old need slice-bounds-index-places-end
--- part-index-places-end : tie.Need-slice-bounds-index-places-end
--- part-index-places-end c = search rules
-
--- old need slice-bounds-judge-placements-start
--- part-judge-placements-start : tie.Need-slice-bounds-judge-placements-start
--- part-judge-placements-start c = search rules
-
--- old need slice-bounds-judge-placements-end
--- part-judge-placements-end : tie.Need-slice-bounds-judge-placements-end
--- part-judge-placements-end c = search rules
-
 pub judge_placements-requires : goal.judge_placements-requires
 judge_placements-requires c = record { place_width_in_bounds = search rules; twins = search (rules, places-flagged) }
 

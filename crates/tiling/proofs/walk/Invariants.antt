@@ -8,6 +8,3 @@ use Rattle.tiling.proofs.walk.Given as goal
 
 abbrev pub invariant-loop-i : goal.invariant-loop-i
 invariant-loop-i l = walk_from l.last l.first (rows l.a) ≡ walk_from l.last l.expected (drop l.i (rows l.a))
-
-abbrev pub decreases-loop-i : goal.decreases-loop-i
-decreases-loop-i l = l.n - l.i

@@ -4,8 +4,8 @@ use Rattle.transitions.proofs.Passing.{both, kept-twice}
 use borrow.Author.Rules.{rules}
 use Rattle.transitions.proofs.judge_transitions.Goals as goal
 
-pub judge_joins-requires : goal.judge_joins-requires
-judge_joins-requires c = record { image = search image-kept; e_bound = search rules; e_in_bounds = search rules }
+pub judge_rows-requires-2 : goal.judge_rows-requires-2
+judge_rows-requires-2 c = record { image = search image-kept; image_before = search rules; ranges_fit = search rules }
 
 pub returns : goal.returns
-returns c = record { value = search (both, c.in_ok-judge_forks.was); w_unchanged = search kept-twice }
+returns c = record { value = search (both, c.in_ok-judge_rows.was); w_unchanged = search kept-twice }

@@ -2,13 +2,5 @@
 use Rattle.image.proofs.Words.{head-copied}
 use Rattle.image.proofs.row.copy_head.Goals as goal
 
--- old need slice-bounds-copy-into-start
--- part-copy-into-start : tie.Need-slice-bounds-copy-into-start
--- part-copy-into-start c = search rules
-
--- old need slice-bounds-copy-into-end
--- part-copy-into-end : tie.Need-slice-bounds-copy-into-end
--- part-copy-into-end c = search rules
-
 pub returns : goal.returns
 returns c = head-copied c.args.w.now c.args.table.now c.args.at c.args.from c.requires.head_width_in_bounds c.requires.head_width_in_bounds_2 c.copy_into.new.dst c.fix_option.new.w c.fix_option-2.new.w c.copy_into.ensures c.fix_option.ensures c.fix_option-2.ensures

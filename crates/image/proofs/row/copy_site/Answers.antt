@@ -5,14 +5,6 @@ use lib.ListN.{length-set}
 use Rattle.image.proofs.Words.{site-copied}
 use Rattle.image.proofs.row.copy_site.Goals as goal
 
--- old need slice-bounds-copy-into-start
--- part-copy-into-start : tie.Need-slice-bounds-copy-into-start
--- part-copy-into-start c = search rules
-
--- old need slice-bounds-copy-into-end
--- part-copy-into-end : tie.Need-slice-bounds-copy-into-end
--- part-copy-into-end c = search rules
-
 pub fix_option-requires : goal.fix_option-requires
 fix_option-requires c = simp length-set (omega arith)
 

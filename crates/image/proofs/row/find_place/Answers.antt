@@ -3,14 +3,6 @@ use Rattle.image.proofs.Found.{fits-key, fits-place, fits_word, lent-size, lent-
 use borrow.Author.Rules.{rules}
 use Rattle.image.proofs.row.find_place.Goals as goal
 
--- old need slice-bounds-find-row-start
--- part-find-row-start : tie.Need-slice-bounds-find-row-start
--- part-find-row-start c = search rules
-
--- old need slice-bounds-find-row-end
--- part-find-row-end : tie.Need-slice-bounds-find-row-end
--- part-find-row-end c = search rules
-
 pub find_row-found-requires : goal.find_row-found-requires
 find_row-found-requires c = record { width_nonzero = search rules; width_in_bounds = search lent-size; ascends = search lent-up }
 

@@ -3,7 +3,7 @@ use Rattle.imaged.proofs.Pairing.{tabled-lent, children-lent, parents-lent, link
 use Rattle.imaged.proofs.links.judge_paired.Goals as goal
 
 pub judge_links-requires : goal.judge_links-requires
-judge_links-requires c = record { tabled = search tabled-lent; tells = search children-lent; tells_2 = search parents-lent }
+judge_links-requires c = record { tabled = search tabled-lent; children_told = search children-lent; parents_told = search parents-lent }
 
 pub returns : goal.returns
 returns c = search links-lent

@@ -9,6 +9,3 @@ use Rattle.judging.proofs.placements.judge_placements.Given as goal
 
 abbrev pub invariant-loop-i : goal.invariant-loop-i
 invariant-loop-i l = placements_rule (placements l.places l.m) ≡ places_from (take l.i (ids l.places place_width l.m)) (placements_from l.places (l.m - l.i) l.i)
-
-abbrev pub decreases-loop-i : goal.decreases-loop-i
-decreases-loop-i l = l.m - l.i

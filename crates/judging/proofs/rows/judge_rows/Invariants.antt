@@ -9,6 +9,3 @@ use Rattle.judging.proofs.rows.judge_rows.Given as goal
 
 abbrev pub invariant-loop-i : goal.invariant-loop-i
 invariant-loop-i l = (l.at + edges_from row_width l.rows (l.n - l.i) l.i ≡ length l.edges) × (l.parents + l.children ≡ l.at) × (rows_rule l.layout l.limit (segments l.rows l.edges l.n) ≡ rows_from l.layout l.limit (take l.i (ids l.rows row_width l.n)) l.parents l.children (segments_from row_width l.rows l.edges (l.n - l.i) l.i l.at))
-
-abbrev pub decreases-loop-i : goal.decreases-loop-i
-decreases-loop-i l = l.n - l.i

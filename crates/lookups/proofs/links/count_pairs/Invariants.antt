@@ -4,4 +4,4 @@ use Rattle.lookups.proofs.Counted.{Counting}
 use Rattle.lookups.proofs.links.count_pairs.Given as goal
 
 abbrev pub invariant-loop-i : goal.invariant-loop-i
-invariant-loop-i l = Counting l.parents l.width l.table l.n l.i l.k
+invariant-loop-i l = Counting l.side l.width l.table l.n l.i l.k

@@ -6,4 +6,4 @@ use Rattle.lookups.proofs.Filled.{Filling}
 use Rattle.lookups.proofs.links.fill_pairs.Given as goal
 
 abbrev pub invariant-loop-i : goal.invariant-loop-i
-invariant-loop-i l = (length l.pairs ≡ length l.initial.pairs) × Filling l.parents l.width l.table l.edges l.n l.pairs l.i l.at l.k
+invariant-loop-i l = (length l.pairs ≡ length l.initial.pairs) × Filling l.side l.width l.table l.edges l.n l.pairs l.i l.at l.k

@@ -6,7 +6,7 @@ pub returns-then-k-p : goal.returns-then-k-p
 returns-then-k-p c = search has-past
 
 pub returns-then-pairs-p : goal.returns-then-pairs-p
-returns-then-pairs-p c = search has_other
+returns-then-pairs-p c = search has_here
 
-pub returns : goal.returns
-returns c = search has_here
+pub returns-else-pairs-p : goal.returns-else-pairs-p
+returns-else-pairs-p c = search has_other

@@ -15,20 +15,20 @@ returns-then-n-i c = (
   c.loop-k.invariant.1.kept,
 )
 
-pub take_node-v-requires : goal.take_node-v-requires
-take_node-v-requires c = (
+pub take_node-requires : goal.take_node-requires
+take_node-requires c = (
   laid_kept _ _ _ _ c.loop-k.invariant.1.kept c.loop-k.invariant.1.size c.requires.0,
   c.if-n-i.false,
   omega (arith, c.loop-k.invariant.1.going.shallow c.index-i.result, c.loop-k-test.true),
   c.loop-k.invariant.1.going.tree-n,
 )
 
-pub returns-in-Deep : goal.returns-in-Deep
-returns-in-Deep c = (
-  told-deep c.args.n c.args.m c.args.lim c.args.w.now _ c.in-Deep.e
-      (going-deep _ _ _ _ _ _ _ _ _ _ c.loop-k.invariant.1.going c.loop-k-test.true _ (c.index-i.ensures ∙ c.first_ready-x.ensures) c.if-n-i.false c.in-Deep.e
-      (visit-kept c.args.n c.args.m c.args.lim _ _ c.args.w.now c.loop-k.w _ _ c.loop-k.invariant.1.kept (seen-deep _ _ _ _ c.take_node-v.ensures.0 c.in-Deep.is))),
-  drop-further (5 * c.args.n) (4 * c.args.n) _ _ (omega arith) c.take_node-v.ensures.2 ∙ c.loop-k.invariant.1.kept,
+pub returns-in-Err : goal.returns-in-Err
+returns-in-Err c = (
+  told-deep c.args.n c.args.m c.args.lim c.args.w.now _ c.in-Err.deep.0
+      (going-deep _ _ _ _ _ _ _ _ _ _ c.loop-k.invariant.1.going c.loop-k-test.true _ (c.index-i.ensures ∙ c.first_ready-x.ensures) c.if-n-i.false c.in-Err.deep.0
+      (visit-kept c.args.n c.args.m c.args.lim _ _ c.args.w.now c.loop-k.w _ _ c.loop-k.invariant.1.kept (seen-deep _ _ _ _ c.take_node.ensures.0 c.in-Err.is))),
+  drop-further (5 * c.args.n) (4 * c.args.n) _ _ (omega arith) c.take_node.ensures.2 ∙ c.loop-k.invariant.1.kept,
 )
 
 pub loop-k-preserved : goal.loop-k-preserved
@@ -37,8 +37,8 @@ loop-k-preserved c =
       omega arith,
       next-at c.args.n c.args.m c.args.lim c.args.w.now c.loop-k.w c.loop-k.k c.requires.0 c.loop-k.invariant.1 k c.index-i.result
           (c.index-i.ensures ∙ c.first_ready-x.ensures) c.if-n-i.false
-          c.take_node-v.new.w c.first_ready-x.result c.index-i.ensures c.take_node-v.auto.w c.take_node-v.ensures.2
-          (seen-on _ _ _ c.take_node-v.ensures.0 c.in_default.is) c.take_node-v.ensures.1,
+          c.take_node.new.w c.first_ready-x.result c.index-i.ensures c.take_node.auto.w c.take_node.ensures.2
+          (seen-on _ _ _ c.take_node.ensures.0 c.in_default.is) c.take_node.ensures.1,
     )
 
 pub returns : goal.returns

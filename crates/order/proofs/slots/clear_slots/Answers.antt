@@ -2,14 +2,6 @@
 use Rattle.order.proofs.AreaSlots.{tree-clear}
 use Rattle.order.proofs.slots.clear_slots.Goals as goal
 
--- old need slice-bounds-clear-tree-start
--- part-clear-tree-start : tie.Need-slice-bounds-clear-tree-start
--- part-clear-tree-start c = search rules
-
--- old need slice-bounds-clear-tree-end
--- part-clear-tree-end : tie.Need-slice-bounds-clear-tree-end
--- part-clear-tree-end c = search rules
-
 pub returns : goal.returns
 returns c =
     tree-clear c.args.n c.args.w.now c.clear_tree.new.t c.requires c.clear_tree.auto.t c.clear_tree.ensures.0

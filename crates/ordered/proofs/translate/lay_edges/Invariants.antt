@@ -11,6 +11,3 @@ use Rattle.ordered.proofs.translate.lay_edges.Given as goal
 abbrev pub invariant-loop-k : goal.invariant-loop-k
 invariant-loop-k l =
     (l.k ≤ l.e) × (length l.w ≡ length l.initial.w) × (l.w ≡ put l.initial.w l.base l.k (map (node_named (image_rows l.initial.w l.n) l.n) (take l.k (image_edges l.initial.w l.n l.e))))
-
-abbrev pub decreases-loop-k : goal.decreases-loop-k
-decreases-loop-k l = l.e - l.k

@@ -10,6 +10,3 @@ use Rattle.ordered.proofs.translate.lay_ids.Given as goal
 abbrev pub invariant-loop-k : goal.invariant-loop-k
 invariant-loop-k l =
     (l.k ≤ l.n) × (length l.w ≡ length l.initial.w) × (l.w ≡ put l.initial.w l.base l.k (map (id_in l.initial.w) (take l.k (part l.initial.w l.base l.n))))
-
-abbrev pub decreases-loop-k : goal.decreases-loop-k
-decreases-loop-k l = l.n - l.k

@@ -11,6 +11,3 @@ use Rattle.ordered.proofs.translate.lay_offsets.Given as goal
 abbrev pub invariant-loop-i : goal.invariant-loop-i
 invariant-loop-i l =
     (l.i ≤ l.n) × (length l.w ≡ length l.initial.w) × (l.w ≡ put l.initial.w l.base (2 * l.i) (offsets_below (image_rows l.initial.w l.n) l.i)) × (l.sum ≡ start_of held_width (image_rows l.initial.w l.n) l.i)
-
-abbrev pub decreases-loop-i : goal.decreases-loop-i
-decreases-loop-i l = l.n - l.i
