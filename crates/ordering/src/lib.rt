@@ -53,16 +53,13 @@ pub fn ordering_eligibility(
 }
 
 // May the segment be read?
-pub fn permits_flow(answer: Eligibility) -> bool
+pub fn permits_flow(answer: Result<Eligibility, Refusal>) -> bool
     ensures { result ≡ permits_flow answer }
 {
-    match answer {
-        Eligibility::Refused(_) => false,
-        Eligibility::Unprovable(_, _) => false,
-        Eligibility::Blocked(_, _) => false,
-        Eligibility::Eligible => true,
-        Eligibility::BrokerManaged(_) => true,
-    }
+    matches!(
+        answer,
+        Ok(Eligibility::Eligible | Eligibility::BrokerManaged { .. })
+    )
 }
 
 // 1, 50: whether parents and children of this segment can be asked for.

@@ -65,16 +65,17 @@ fn managed(rt: &impl Print, second: &[u64], m: usize) -> io::Result<()> {
 
 fn eligibility(rt: &impl Print, e: Eligibility, first: &[u64], second: &[u64]) -> io::Result<()> {
     match e {
-        Eligibility::Refused(r) => refusal(rt, r),
-        Eligibility::Unprovable(id, n) => unprovable(rt, id, first, n),
-        Eligibility::Blocked(n, m) => blocked(rt, first, n, second, m),
+        Eligibility::Unprovable { id, count } => unprovable(rt, id, first, count),
+        Eligibility::Blocked { incomplete, remote } => {
+            blocked(rt, first, incomplete, second, remote)
+        }
         Eligibility::Eligible => text(rt, b" E"),
-        Eligibility::BrokerManaged(m) => managed(rt, second, m),
+        Eligibility::BrokerManaged { remote } => managed(rt, second, remote),
     }
 }
 
-fn permitted(rt: &impl Print, e: Eligibility) -> io::Result<()> {
-    if ordering::permits_flow(e) {
+fn permitted(rt: &impl Print, answer: Result<Eligibility, Refusal>) -> io::Result<()> {
+    if ordering::permits_flow(answer) {
         text(rt, b", permitted\n")
     } else {
         text(rt, b", not permitted\n")
@@ -82,11 +83,13 @@ fn permitted(rt: &impl Print, e: Eligibility) -> io::Result<()> {
 }
 
 pub fn answer(rt: &impl Print, o: Ordering, first: &[u64], second: &[u64]) -> io::Result<()> {
-    let e = o.eligibility;
-    eligibility(rt, e, first, second)?;
+    match o.eligibility {
+        Ok(e) => eligibility(rt, e, first, second)?,
+        Err(r) => refusal(rt, r)?,
+    }
     text(rt, b", read")?;
     word(rt, o.read)?;
-    permitted(rt, e)
+    permitted(rt, o.eligibility)
 }
 
 pub fn judged(rt: &impl Print, label: &[u8], id: u64, j: Result<(), Refusal>) -> io::Result<()> {

@@ -3,7 +3,7 @@
 use Rattle.std.specs.Prelude.{ℕ, ◌+◌, ◌*◌, ◌≤◌, ◌≡◌, cond, List, [], ◌∷◌, eqb}
 use Rattle.lists.specs.Lists.{front}
 use Rattle.lists.specs.Sets.{keep}
-use Rattle.answers.specs.declared.Eligibility.{Eligibility}
+use Rattle.answers.specs.Verdict.{Verdict}
 use Rattle.answers.specs.declared.Ordering.{Ordering}
 use Rattle.types.specs.declared.records.OrderingMode.{OrderingMode}
 use Rattle.rules.specs.Ordering.{Answer, unprovable_for, barred, settled, told_of, first_of, second_of, answered, ordering_of, first_after, second_after}
@@ -28,7 +28,7 @@ abbrev pub row_answer : OrderingMode → ℕ → List ℕ → List ℕ → List 
 row_answer mode id pruned remotes incomplete n = unprovable_for id n pruned (open_answer mode id remotes incomplete n)
 
 -- the answer by value, and both lists before and after
-pub record Told (a : ℕ → Answer) (told : Eligibility) (first first' second second' : List ℕ) : Type 0 where
+pub record Told (a : ℕ → Answer) (told : Verdict) (first first' second second' : List ℕ) : Type 0 where
   pub told_is : (n : ℕ) → told ≡ told_of (a n)
   pub first-is : (n : ℕ) → first' ≡ front (first_of (a n)) first
   pub second_is : (n : ℕ) → second' ≡ front (second_of (a n)) second

@@ -15,15 +15,18 @@ use types::records::OrderingMode;
 // Every ancestor must have been owned and completed here. Marks: 0 never owned, 1 owned and not completed.
 fn answer_strict(id: u64, w: &[u64], b: usize, k: usize, s: usize, first: &mut [u64]) -> Eligibility
     requires { (b + k ≤ s) × (s + k ≤ length w.now) × (k ≤ length first.old) }
-    ensures { (l : List ℕ) → Told (open_answer Strict id (with_mark w.now b s 0 k) (with_mark w.now b s 1 k)) result first.old first.new l l }
+    ensures { (l : List ℕ) → Told (open_answer Strict id (with_mark w.now b s 0 k) (with_mark w.now b s 1 k)) (Ok result) first.old first.new l l }
 {
     let remote = owned::by_mark::list_marked(w, b, k, s, 0, first);
     if 0 < remote {
-        return Eligibility::Unprovable(id, remote);
+        return Eligibility::Unprovable { id, count: remote };
     }
     let incomplete = owned::by_mark::list_marked(w, b, k, s, 1, first);
     if 0 < incomplete {
-        return Eligibility::Blocked(incomplete, 0);
+        return Eligibility::Blocked {
+            incomplete,
+            remote: 0,
+        };
     }
     Eligibility::Eligible
 }
@@ -39,15 +42,15 @@ fn answer_managed(
     second: &mut [u64],
 ) -> Eligibility
     requires { (b + k ≤ s) × (s + k ≤ length w.now) × (k ≤ length first.old) × (k ≤ length second.old) }
-    ensures { Told (open_answer BrokerManaged id (with_mark w.now b s 0 k) (with_mark w.now b s 1 k)) result first.old first.new second.old second.new }
+    ensures { Told (open_answer BrokerManaged id (with_mark w.now b s 0 k) (with_mark w.now b s 1 k)) (Ok result) first.old first.new second.old second.new }
 {
     let remote = owned::by_mark::list_marked(w, b, k, s, 0, second);
     let incomplete = owned::by_mark::list_marked(w, b, k, s, 1, first);
     if 0 < incomplete {
-        return Eligibility::Blocked(incomplete, remote);
+        return Eligibility::Blocked { incomplete, remote };
     }
     if 0 < remote {
-        return Eligibility::BrokerManaged(remote);
+        return Eligibility::BrokerManaged { remote };
     }
     Eligibility::Eligible
 }
@@ -63,7 +66,7 @@ fn answer_open(
     second: &mut [u64],
 ) -> Eligibility
     requires { (b + k ≤ s) × (s + k ≤ length w.now) × (k ≤ length first.old) × (k ≤ length second.old) }
-    ensures { Told (open_answer mode id (with_mark w.now b s 0 k) (with_mark w.now b s 1 k)) result first.old first.new second.old second.new }
+    ensures { Told (open_answer mode id (with_mark w.now b s 0 k) (with_mark w.now b s 1 k)) (Ok result) first.old first.new second.old second.new }
 {
     match mode {
         OrderingMode::Strict => answer_strict(id, w, b, k, s, first),
@@ -114,11 +117,11 @@ pub fn answer_row(
     requires held_width_in_bounds { (h * held_width ≤ length rows.now) × Ascends (ids rows.now held_width h) }
     requires k_bound { (b + k ≤ s) × (s + k ≤ length w.old) × Ascends (part w.old b k) }
     requires k_in_bounds { (k < length first.old) × (k ≤ length second.old) }
-    ensures { Told (row_answer mode id (pruned_in rows.now h id (part w.old b k)) (remote_in history.now completed.now (part w.old b k)) (incomplete_in history.now completed.now (part w.old b k))) result first.old first.new second.old second.new }
+    ensures { Told (row_answer mode id (pruned_in rows.now h id (part w.old b k)) (remote_in history.now completed.now (part w.old b k)) (incomplete_in history.now completed.now (part w.old b k))) (Ok result) first.old first.new second.old second.new }
 {
     let pruned = list_pruned(rows, h, id, w, b, k, s, first);
     if 0 < pruned {
-        return Eligibility::Unprovable(id, pruned);
+        return Eligibility::Unprovable { id, count: pruned };
     }
     owned::marks::mark_owned(w, b, k, s, history, completed);
     answer_open(mode, id, w, b, k, s, first, second)

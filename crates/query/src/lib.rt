@@ -8,7 +8,7 @@ ghost use Rattle.rules.specs.Ordering.{ordering, refused_at, ordering_of};
 ghost use Rattle.tabled.specs.Image.{Tabled};
 ghost use Rattle.query.specs.Told.{Replied, Room};
 
-use answers::{Eligibility, Ordering, Refusal};
+use answers::{Ordering, Refusal};
 use types::records::{OrderingMode, RowIndex, SegmentId};
 
 mod answer;
@@ -49,7 +49,7 @@ fn ask_row(
         second,
     );
     Ordering {
-        eligibility,
+        eligibility: Ok(eligibility),
         read: all.read as u64,
     }
 }
@@ -59,7 +59,7 @@ pub fn refused(refusal: Refusal) -> Ordering
     ensures { result ≡ ordering_of (refused_at refusal) }
 {
     Ordering {
-        eligibility: Eligibility::Refused(refusal),
+        eligibility: Err(refusal),
         read: 0,
     }
 }

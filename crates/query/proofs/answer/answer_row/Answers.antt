@@ -1,5 +1,6 @@
 -- `answer_row` meets its contract: where nothing is pruned nothing was written, and the marks tell remote and incomplete ancestors.
 use native.Mathlib.Omega.{arith}
+use Rattle.std.specs.Prelude.{Ok}
 use Rattle.words.specs.Part.{part}
 use Rattle.owned.proofs.Raising.{again-asks}
 use Rattle.query.specs.Told.{pruned_in, remote_in, incomplete_in}
@@ -16,5 +17,5 @@ mark_owned-requires c =
 
 pub returns : goal.returns
 returns c =
-    told-open c.args.mode c.args.id (remote_in c.args.history.now c.args.completed.now (part c.args.w.now c.args.b c.args.k)) (incomplete_in c.args.history.now c.args.completed.now (part c.args.w.now c.args.b c.args.k)) c.args.first.now c.list_pruned-pruned.new.first c.args.second.now c.list_pruned-pruned.result (pruned_in c.args.rows.now c.args.h c.args.id (part c.args.w.now c.args.b c.args.k)) c.answer_open.result _ _ (c.list_pruned-pruned.ensures.first_after, c.list_pruned-pruned.ensures.value) c.if-pruned-gt0.false
-    (told-owned c.args.mode c.args.id c.args.history.now c.args.completed.now c.args.b c.args.s c.args.k c.args.w.now _ c.mark_owned.new.w c.answer_open.result _ _ _ _ c.requires.k_bound.0 (omega (arith, c.requires.k_bound.1, c.list_pruned-pruned.auto.w)) c.list_pruned-pruned.ensures.w_unchanged c.mark_owned.ensures c.answer_open.ensures)
+    told-open c.args.mode c.args.id (remote_in c.args.history.now c.args.completed.now (part c.args.w.now c.args.b c.args.k)) (incomplete_in c.args.history.now c.args.completed.now (part c.args.w.now c.args.b c.args.k)) c.args.first.now c.list_pruned-pruned.new.first c.args.second.now c.list_pruned-pruned.result (pruned_in c.args.rows.now c.args.h c.args.id (part c.args.w.now c.args.b c.args.k)) (Ok c.answer_open.result) _ _ (c.list_pruned-pruned.ensures.first_after, c.list_pruned-pruned.ensures.value) c.if-pruned-gt0.false
+    (told-owned c.args.mode c.args.id c.args.history.now c.args.completed.now c.args.b c.args.s c.args.k c.args.w.now _ c.mark_owned.new.w (Ok c.answer_open.result) _ _ _ _ c.requires.k_bound.0 (omega (arith, c.requires.k_bound.1, c.list_pruned-pruned.auto.w)) c.list_pruned-pruned.ensures.w_unchanged c.mark_owned.ensures c.answer_open.ensures)
