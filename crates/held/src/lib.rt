@@ -62,6 +62,13 @@ impl<'a> Held<'a> {
         }
     }
 
+    pub fn id(&self, row: RowIndex) -> SegmentId
+        requires { row.0 < self.now.count }
+        ensures { result.0 ≡ get_or self.now.rows.now (row.0 * held_width) 0 }
+    {
+        SegmentId(self.rows[row.0 * rules::HELD])
+    }
+
     // The epoch at which the segment of a row was created.
     pub fn created(&self, row: RowIndex) -> u64
         requires { row.0 < self.now.count }

@@ -35,7 +35,7 @@ fn ask_row(
     let h = held.count;
     let g = held.edges.len();
     let b = 4 * h + 4 * g;
-    let all = walk::ancestors_of(held.rows, held.edges, h, row, work);
+    let all = walk::ancestors_of(held, row, work);
     let eligibility = answer::answer_row(held, mode, id, history, work, b, all.count, b + g, lists);
     Ordering {
         eligibility: Ok(eligibility),
