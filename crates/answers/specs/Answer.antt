@@ -4,8 +4,8 @@ use Rattle.std.specs.Prelude.{ℕ, Bool, cond, Result, Ok, Err, List, [], ◌∷
 use Rattle.answers.specs.declared.Refusal.{Refusal}
 use Rattle.answers.specs.declared.Refusal.TheVariants.{BadTable, NoRoom, SerializedSize, SegmentCount, PlacementCount, DuplicatePlacement, EmptyPlacementUrl, DuplicateSegment, EmptyLegacyTopic, StartOutOfBounds, EndOutOfBounds, Reversed, UnknownState, CreatedAfterLayout, ActiveWithSealEpoch, ActiveWithChildren, SealedWithoutEpoch, InvalidSealEpoch, SelfEdge, DuplicateParent, DuplicateChild, EdgeCount, DanglingPlacement, DanglingParent, NonReciprocalEdge, EdgeEpochMismatch, DanglingChild, Depth, Cycle, ConflictingTopology, InvalidSplitCoverage, InvalidMergeCoverage, NoActiveSegments, ActiveCoverageDiscontinuity, ActiveCoverageEnd, PlacementMismatch, SessionMismatch, Broker, Empty, UnknownSegment, EpochMismatch, UnknownAssigned, RangeMismatch, LegacySegment}
 use Rattle.answers.specs.declared.RefusalWords.{RefusalWords}
-use Rattle.answers.specs.declared.Eligibility.{Eligibility}
-use Rattle.answers.specs.declared.Eligibility.TheVariants as E
+use Rattle.answers.specs.Verdict.{Verdict}
+use Rattle.answers.specs.Verdict as E
 use Rattle.answers.specs.declared.Updated.{Updated}
 use Rattle.answers.specs.declared.Updated.TheVariants as U
 
@@ -130,14 +130,14 @@ abbrev pub values_of : Judged → List ℕ
 values_of Accepted = []
 values_of (Refused r) = refusal_values r
 
-abbrev pub eligibility_number : Eligibility → ℕ
+abbrev pub eligibility_number : Verdict → ℕ
 eligibility_number (E.Refused r) = refusal_number r
 eligibility_number (E.Unprovable id n) = 51
 eligibility_number (E.Blocked n m) = 0
 eligibility_number E.Eligible = 0
 eligibility_number (E.BrokerManaged m) = 0
 
-abbrev pub eligibility_values : Eligibility → List ℕ
+abbrev pub eligibility_values : Verdict → List ℕ
 eligibility_values (E.Refused r) = refusal_values r
 eligibility_values (E.Unprovable id n) = id ∷ []
 eligibility_values (E.Blocked n m) = []

@@ -312,23 +312,29 @@ pub fn number(j: Result<(), Refusal>) -> u64
 }
 
 // May a segment be read? The lists stand at the front of the two ordering lists; here are their lengths.
-#[derive(Clone, Copy)]
+#[derive(Clone, Copy, PartialEq, Eq, Debug)]
 pub enum Eligibility {
-    // 1, 2, 50
-    Refused(Refusal),
     // 51: the segment, and how many ids the first list holds
-    Unprovable(u64, usize),
+    Unprovable {
+        id: u64,
+        count: usize,
+    },
     // incomplete ancestors in the first list, remote ones in the second
-    Blocked(usize, usize),
+    Blocked {
+        incomplete: usize,
+        remote: usize,
+    },
     Eligible,
     // remote ancestors in the second list
-    BrokerManaged(usize),
+    BrokerManaged {
+        remote: usize,
+    },
 }
 
-// The answer of an ordering query, with the count of parent references that it read.
-#[derive(Clone, Copy)]
+// The answer of an ordering query, refused by 1, 2 or 50, with the count of parent references that it read.
+#[derive(Clone, Copy, PartialEq, Eq, Debug)]
 pub struct Ordering {
-    pub eligibility: Eligibility,
+    pub eligibility: Result<Eligibility, Refusal>,
     pub read: u64,
 }
 

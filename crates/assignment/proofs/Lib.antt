@@ -1,4 +1,3 @@
 pub mod Cases
 pub mod Heads
 pub mod Told
-pub mod Walk

@@ -1,17 +1,14 @@
--- One record, judged by what the search for its id found; and a turn of the walk, by what was judged. Assumes nothing.
+-- One record, judged by what the search for its id found. Assumes nothing.
 use Prim.Native.Nat.{ℕ, ◌*◌, ◌<◌}
 use mathlib.Core.Path.{◌≡◌, sym, ap, ◌∙◌}
 use mathlib.Core.Option.{some}
 use mathlib.Core.List.{List}
 use Rattle.words.specs.Table.{ids, where_is, Found, At, Nothing}
 use Rattle.words.proofs.TableLaws as Rows
-use Rattle.answers.specs.declared.Refusal.{Refusal}
-use Rattle.answers.specs.Answer.{Judged, Accepted, Refused}
+use Rattle.answers.specs.Answer.{Judged, Refused}
 use Rattle.types.specs.declared.records.Assigned.{Assigned}
 use Rattle.rules.specs.Tables.{held_width, head_at, heads}
 use Rattle.rules.specs.Assignment.{assigned_found, assigned_rule}
-use Rattle.assignment.specs.declared.Turn.{Turn}
-use Rattle.assignment.specs.Turns.{turn_to}
 use Rattle.assignment.proofs.Heads.{head_found, head-found}
 use Rattle.answers.specs.declared.Refusal.TheVariants.{UnknownAssigned}
 
@@ -29,14 +26,3 @@ module _ (rows : List ℕ) (n : ℕ) (a : Assigned) (f : Found) (said : f ≡ wh
   pub record-nowhere : (v : Judged) → f ≡ Nothing → v ≡ Refused (UnknownAssigned a.id) → v ≡ assigned_rule (heads held_width rows n 0) a
   unfolding assigned_found
   record-nowhere v told e = e ∙ sym (ap (λ (g : Found). assigned_found a (head_found rows g)) told) ∙ by_row
-
-pub turn_on : (next len : ℕ) (x : Judged) → x ≡ Accepted → record { next = next; answer = x } ≡ turn_to next len x
-unfolding turn_to
-turn_on next len x told = rw told
-
-pub turn-off : (next len : ℕ) (x : Judged) (r : Refusal) → x ≡ Refused r → record { next = len; answer = x } ≡ turn_to next len x
-unfolding turn_to
-turn-off next len x r told = rw told
-
-pub turned : (next len : ℕ) (t : Turn) (x j : Judged) → t ≡ turn_to next len x → x ≡ j → t ≡ turn_to next len j
-turned next len t x j said told = rw (said, told)

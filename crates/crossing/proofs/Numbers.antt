@@ -5,8 +5,8 @@ use Prim.Native.Nat.{ℕ}
 use mathlib.Core.Path.{◌≡◌, refl}
 use mathlib.Core.List.{List}
 use Rattle.answers.specs.declared.RefusalWords.{RefusalWords}
-use Rattle.answers.specs.declared.Eligibility.{Eligibility}
-use Rattle.answers.specs.declared.Eligibility.TheVariants as E
+use Rattle.answers.specs.Verdict.{Verdict}
+use Rattle.answers.specs.Verdict as E
 use Rattle.answers.specs.declared.Updated.{Updated}
 use Rattle.answers.specs.declared.Updated.TheVariants as U
 use Rattle.answers.specs.Answer.{words_by, number_of, values_of, eligibility_number, eligibility_values, updated_number, updated_values, Judged, Accepted, Refused}
@@ -21,7 +21,7 @@ pub judged-tells : (j : Judged) → Tells (refusal_of j) (number_of j) (values_o
 judged-tells Accepted = refl
 judged-tells (Refused r) = refl
 
-pub ordering-tells : (e : Eligibility) → Tells (bar_of e) (eligibility_number e) (eligibility_values e)
+pub ordering-tells : (e : Verdict) → Tells (bar_of e) (eligibility_number e) (eligibility_values e)
 ordering-tells (E.Refused r) = refl
 ordering-tells (E.Unprovable id n) = refl
 ordering-tells (E.Blocked n m) = refl

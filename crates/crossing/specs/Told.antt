@@ -3,8 +3,8 @@
 use Rattle.std.specs.Prelude.{ℕ}
 use Rattle.answers.specs.Answer.{words_by, words_of, eligibility_number, eligibility_values, Judged, Accepted, Refused}
 use Rattle.answers.specs.declared.RefusalWords.{RefusalWords}
-use Rattle.answers.specs.declared.Eligibility.{Eligibility}
-use Rattle.answers.specs.declared.Eligibility.TheVariants as E
+use Rattle.answers.specs.Verdict.{Verdict}
+use Rattle.answers.specs.Verdict as E
 use Rattle.answers.specs.declared.Ordering.{Ordering}
 use Rattle.crossing.specs.declared.answer.OrderingWords.{OrderingWords}
 
@@ -18,7 +18,7 @@ refusal_of Accepted = no_refusal
 refusal_of (Refused r) = words_of r
 
 -- 0 refused, 1 blocked, 2 eligible, 3 broker-managed
-abbrev pub outcome_of : Eligibility → ℕ
+abbrev pub outcome_of : Verdict → ℕ
 outcome_of (E.Refused r) = 0
 outcome_of (E.Unprovable id n) = 0
 outcome_of (E.Blocked n m) = 1
@@ -26,7 +26,7 @@ outcome_of E.Eligible = 2
 outcome_of (E.BrokerManaged m) = 3
 
 -- 51 carries the segment; its list stands in the first ordering list
-abbrev pub bar_of : Eligibility → RefusalWords
+abbrev pub bar_of : Verdict → RefusalWords
 bar_of (E.Refused r) = words_of r
 bar_of (E.Unprovable id n) = words_by (eligibility_number (E.Unprovable id n)) (eligibility_values (E.Unprovable id n))
 bar_of (E.Blocked n m) = no_refusal
@@ -34,14 +34,14 @@ bar_of E.Eligible = no_refusal
 bar_of (E.BrokerManaged m) = no_refusal
 
 -- how many ids stand at the front of the first list, and of the second
-abbrev pub first_count : Eligibility → ℕ
+abbrev pub first_count : Verdict → ℕ
 first_count (E.Refused r) = 0
 first_count (E.Unprovable id n) = n
 first_count (E.Blocked n m) = n
 first_count E.Eligible = 0
 first_count (E.BrokerManaged m) = 0
 
-abbrev pub second_count : Eligibility → ℕ
+abbrev pub second_count : Verdict → ℕ
 second_count (E.Refused r) = 0
 second_count (E.Unprovable id n) = 0
 second_count (E.Blocked n m) = m

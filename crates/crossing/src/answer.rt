@@ -57,10 +57,9 @@ fn told(
 pub fn ordering_words(o: Ordering) -> OrderingWords
     ensures { result ≡ ordering_words o }
 {
-    let eligibility = o.eligibility;
-    match eligibility {
-        Eligibility::Refused(r) => told(0, r.into(), 0, 0, o.read),
-        Eligibility::Unprovable(id, n) => {
+    match o.eligibility {
+        Err(r) => told(0, r.into(), 0, 0, o.read),
+        Ok(Eligibility::Unprovable { id, count }) => {
             let refusal = RefusalWords {
                 number: 51,
                 a: id,
@@ -68,10 +67,12 @@ pub fn ordering_words(o: Ordering) -> OrderingWords
                 c: 0,
                 d: 0,
             };
-            told(0, refusal, n, 0, o.read)
+            told(0, refusal, count, 0, o.read)
         }
-        Eligibility::Blocked(n, m) => told(1, NONE, n, m, o.read),
-        Eligibility::Eligible => told(2, NONE, 0, 0, o.read),
-        Eligibility::BrokerManaged(m) => told(3, NONE, 0, m, o.read),
+        Ok(Eligibility::Blocked { incomplete, remote }) => {
+            told(1, NONE, incomplete, remote, o.read)
+        }
+        Ok(Eligibility::Eligible) => told(2, NONE, 0, 0, o.read),
+        Ok(Eligibility::BrokerManaged { remote }) => told(3, NONE, 0, remote, o.read),
     }
 }

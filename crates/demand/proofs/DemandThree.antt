@@ -9,7 +9,7 @@ use mathlib.Core.List.{List, ◌∷◌}
 use lib.ListN.{length, take, drop}
 use lib.Seq.{take_at}
 use Rattle.lists.specs.Lists.{front, ◌∈◌, ◌∉◌}
-use Rattle.answers.specs.declared.Eligibility.TheVariants as E
+use Rattle.answers.specs.Verdict as E
 use Rattle.types.specs.declared.records.OrderingMode.{OrderingMode}
 use Rattle.rules.specs.Model.{Segment}
 use Rattle.rules.specs.Tables.{held_segments}

@@ -5,7 +5,7 @@ use mathlib.Core.List.{[], ◌∷◌, ◌++◌}
 use lib.ListN.{replicate}
 use Rattle.lists.specs.Sort.{le3}
 use Rattle.lists.specs.Sets.{add, add_all, keep, total}
-use Rattle.answers.specs.declared.Eligibility.TheVariants as E
+use Rattle.answers.specs.Verdict as E
 use Rattle.types.specs.declared.limits.DagLimits.{DagLimits}
 use Rattle.types.specs.declared.records.OrderingMode.TheVariants.{Strict, BrokerManaged}
 use Rattle.rules.specs.Tables.{held_rows, held_edges}

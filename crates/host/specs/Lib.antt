@@ -1,4 +1,3 @@
 pub mod Mode
 pub mod Span
-pub mod Turns
 pub mod Updates

@@ -5,6 +5,8 @@ ghost use Rattle.crossing.specs.Told.{ordering_words};
 ghost use Rattle.host.specs.Mode.{mode_of};
 
 use crossing::answer::OrderingWords;
+use held::HeldTables;
+use types::lent::{History, Lists};
 use types::records::{OrderingMode, SegmentId};
 
 fn mode_of(managed: bool) -> OrderingMode
@@ -36,19 +38,25 @@ pub extern "C" fn threshpetal_ordering_eligibility(
     ensures second_after { second.new ≡ second_after (query rows.now edges.now h g (mode_of managed) segment history.now completed.now (record { work = length work.old; first = first.old; second = second.old })) second.old }
     ensures work_value { work.new ≡ order_work_after (query rows.now edges.now h g (mode_of managed) segment history.now completed.now (record { work = length work.old; first = first.old; second = second.old })) work.old }
 {
-    let mode = mode_of(managed);
-    let answer = ordering::ordering_eligibility(
+    let tables = HeldTables {
         rows,
         edges,
-        h,
-        g,
+        count: h,
+        edge_count: g,
+    };
+    let history = History {
+        owned: history,
+        completed,
+    };
+    let mut lists = Lists { first, second };
+    let mode = mode_of(managed);
+    let answer = ordering::ordering_eligibility(
+        &tables,
         mode,
         SegmentId(segment),
-        history,
-        completed,
+        &history,
         work,
-        first,
-        second,
+        &mut lists,
     );
     crossing::answer::ordering_words(answer)
 }

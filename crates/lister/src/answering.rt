@@ -1,6 +1,8 @@
 // The two answers that the listing prints: of an update, and of an ordering query. Areas that no line comes back to are lent from here.
 use crate::tables::first_bytes;
+use held::HeldTables;
 use std::io;
+use types::lent::{History, Lists};
 use types::records::{OrderingMode, SegmentId, Session, Update};
 
 // The update that `.` ends: its answer is printed, and the session after it handed back.
@@ -68,20 +70,25 @@ pub fn ask(
     let mut work = [0u64; 3072];
     let mut first = [0u64; 65];
     let mut second = [0u64; 65];
-    let h = session::held_rows(session);
-    let g = session::held_edges(session);
+    let tables = HeldTables {
+        rows: held,
+        edges: links,
+        count: session::held_rows(session),
+        edge_count: session::held_edges(session),
+    };
     let asked = ordering::ordering_eligibility(
-        held,
-        links,
-        h,
-        g,
+        &tables,
         mode,
         SegmentId(id),
-        history,
-        completed,
+        &History {
+            owned: history,
+            completed,
+        },
         &mut work,
-        &mut first,
-        &mut second,
+        &mut Lists {
+            first: &mut first,
+            second: &mut second,
+        },
     );
     let answer = asked.eligibility;
     let mut out = [0u8; 4096];

@@ -1,64 +1,30 @@
-// Rows of held tables by id, and the stretches of the edge table that a row has.
-ghost use Rattle.std.specs.Prelude.{◌≡◌, ◌+◌, ◌*◌, ◌<◌, ◌≤◌, length};
-ghost use Rattle.rules.specs.Tables.{held_width, start_of, edges_from};
-ghost use Rattle.tabled.specs.Image.{segment_in};
-ghost use Rattle.ordering.specs.Rows.{known_row, Fit};
+// Where the parents and the children of a segment stand among the held edge words.
+ghost use Rattle.std.specs.Prelude.{◌≡◌, ◌+◌, ◌≤◌, IfOk, length};
+ghost use Rattle.ordering.specs.Rows.{span_rule, stretch_of};
 
-use types::records::RowIndex;
+use answers::Refusal;
+use held::{Held, HeldTables, Span};
+use types::records::{SegmentId, Side};
 
-// The row of this id, if the held tables are good and have one.
-pub fn known_row(rows: &[u64], edges: &[u64], h: usize, g: usize, id: u64) -> Option<usize>
-    ensures { result ≡ known_row rows.now edges.now h g id }
+// 1, 50, or where they stand.
+pub fn find_span(tables: &HeldTables, side: Side, id: SegmentId) -> Result<Span, Refusal>
+    ensures value { result ≡ span_rule side tables.now id.0 }
+    ensures within { IfOk result (λ span.
+        (span.start + span.length ≤ tables.now.edge_count) × (tables.now.edge_count ≤ length tables.now.edges.now)) }
 {
-    if shape::tables::is_bad_held(rows, edges, h, g) {
-        return None;
+    let held = Held::new(tables)?;
+    match held.find(id) {
+        Some(row) => Ok(held.span(side, row)),
+        None => Err(Refusal::UnknownSegment { id: id.0 }),
     }
-    words::find_row(rows, rules::HELD, h, id)
 }
 
-// Where the edges of row r begin; g is how many edge words the h rows have.
-pub fn edge_start(rows: &[u64], h: usize, g: usize, r: usize) -> usize
-    requires { (r < h) × (h * held_width ≤ length rows.now) × (edges_from held_width rows.now h 0 ≡ g) }
-    ensures { result ≡ start_of held_width rows.now r }
+// The stretch itself, empty where there is none.
+pub fn edges_of<'a>(tables: &HeldTables<'a>, side: Side, id: SegmentId) -> &'a [u64]
+    ensures { result.now ≡ stretch_of side tables.now id.0 }
 {
-    let mut at = 0;
-    let mut i = 0;
-    while i < r {
-        at = walk::starts::next_start(rows, h, g, i, at);
-        i += 1;
+    match find_span(tables, side, id) {
+        Ok(span) => &tables.edges[span.start..span.start + span.length],
+        Err(_) => &tables.edges[..0],
     }
-    at
-}
-
-// The parents of a row of good tables, as the stretch of the edge table that they are.
-pub fn parents_in<'a>(
-    rows: &[u64],
-    edges: &'a [u64],
-    h: usize,
-    g: usize,
-    row: RowIndex,
-) -> &'a [u64]
-    requires { Fit rows.now edges.now h g row.0 }
-    ensures { result.now ≡ (segment_in rows.now edges.now row.0).parents }
-{
-    let from = edge_start(rows, h, g, row.0);
-    let to = from + rows[row.0 * rules::HELD + 9] as usize;
-    &edges[from..to]
-}
-
-// The same of the children.
-pub fn children_in<'a>(
-    rows: &[u64],
-    edges: &'a [u64],
-    h: usize,
-    g: usize,
-    row: RowIndex,
-) -> &'a [u64]
-    requires { Fit rows.now edges.now h g row.0 }
-    ensures { result.now ≡ (segment_in rows.now edges.now row.0).children }
-{
-    let at = edge_start(rows, h, g, row.0);
-    let from = at + rows[row.0 * rules::HELD + 9] as usize;
-    let to = from + rows[row.0 * rules::HELD + 10] as usize;
-    &edges[from..to]
 }

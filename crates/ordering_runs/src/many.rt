@@ -1,7 +1,9 @@
 // A segment with many parents: 299 with a row, their ids seven apart, and 299 references to 150 ids without one. References to so many ids with
 // gaps between them are found by hints, and so many ids without a row are put in order by their digits.
 use crate::print;
+use held::HeldTables;
 use std::io;
+use types::lent::{History, Lists};
 use types::records::{OrderingMode, SegmentId};
 
 // The word at this place, if there is one.
@@ -31,26 +33,28 @@ fn fill_edges(edges: &mut [u64]) {
     }
 }
 
-fn ask(rt: &impl Print, rows: &[u64], edges: &[u64], mode: OrderingMode) -> io::Result<()> {
-    let none = &edges[..0];
+fn ask(rt: &impl Print, tables: &HeldTables, mode: OrderingMode) -> io::Result<()> {
+    let none = History {
+        owned: &[],
+        completed: &[],
+    };
     let mut work = [7u64; 28736];
     let mut first = [0u64; 599];
     let mut second = [0u64; 599];
-    print::query(rt, mode, 2098, none, none)?;
+    let mut lists = Lists {
+        first: &mut first,
+        second: &mut second,
+    };
+    print::query(rt, mode, 2098, &none)?;
     let answer = ordering::ordering_eligibility(
-        rows,
-        edges,
-        300,
-        598,
+        tables,
         mode,
         SegmentId(2098),
-        none,
-        none,
+        &none,
         &mut work,
-        &mut first,
-        &mut second,
+        &mut lists,
     );
-    print::answer(rt, answer, &first, &second)
+    print::answer(rt, answer, &lists)
 }
 
 pub fn run(rt: &impl Print) -> io::Result<()> {
@@ -59,6 +63,12 @@ pub fn run(rt: &impl Print) -> io::Result<()> {
     let mut edges = [0u64; 598];
     fill_rows(&mut rows);
     fill_edges(&mut edges);
-    ask(rt, &rows, &edges, OrderingMode::Strict)?;
-    ask(rt, &rows, &edges, OrderingMode::BrokerManaged)
+    let tables = HeldTables {
+        rows: &rows,
+        edges: &edges,
+        count: 300,
+        edge_count: 598,
+    };
+    ask(rt, &tables, OrderingMode::Strict)?;
+    ask(rt, &tables, OrderingMode::BrokerManaged)
 }

@@ -2,6 +2,7 @@
 use answers::{Eligibility, Ordering, Refusal};
 use shown::{ids, text, word};
 use std::io;
+use types::lent::{History, Lists};
 use types::records::OrderingMode;
 
 pub fn line(rt: &impl Print, bytes: &[u8]) -> io::Result<()> {
@@ -31,18 +32,12 @@ fn mode(rt: &impl Print, m: OrderingMode) -> io::Result<()> {
     }
 }
 
-pub fn query(
-    rt: &impl Print,
-    m: OrderingMode,
-    id: u64,
-    history: &[u64],
-    completed: &[u64],
-) -> io::Result<()> {
+pub fn query(rt: &impl Print, m: OrderingMode, id: u64, history: &History) -> io::Result<()> {
     text(rt, b"O")?;
     word(rt, id)?;
     mode(rt, m)?;
-    ids(rt, history)?;
-    ids(rt, completed)?;
+    ids(rt, history.owned)?;
+    ids(rt, history.completed)?;
     text(rt, b":")
 }
 
@@ -63,30 +58,35 @@ fn managed(rt: &impl Print, second: &[u64], m: usize) -> io::Result<()> {
     first_ids(rt, second, m)
 }
 
-fn eligibility(rt: &impl Print, e: Eligibility, first: &[u64], second: &[u64]) -> io::Result<()> {
+fn eligibility(rt: &impl Print, e: Eligibility, lists: &Lists) -> io::Result<()> {
+    let first = &*lists.first;
+    let second = &*lists.second;
     match e {
-        Eligibility::Refused(r) => refusal(rt, r),
-        Eligibility::Unprovable(id, n) => unprovable(rt, id, first, n),
-        Eligibility::Blocked(n, m) => blocked(rt, first, n, second, m),
+        Eligibility::Unprovable { id, count } => unprovable(rt, id, first, count),
+        Eligibility::Blocked { incomplete, remote } => {
+            blocked(rt, first, incomplete, second, remote)
+        }
         Eligibility::Eligible => text(rt, b" E"),
-        Eligibility::BrokerManaged(m) => managed(rt, second, m),
+        Eligibility::BrokerManaged { remote } => managed(rt, second, remote),
     }
 }
 
-fn permitted(rt: &impl Print, e: Eligibility) -> io::Result<()> {
-    if ordering::permits_flow(e) {
+fn permitted(rt: &impl Print, answer: Result<Eligibility, Refusal>) -> io::Result<()> {
+    if ordering::permits_flow(answer) {
         text(rt, b", permitted\n")
     } else {
         text(rt, b", not permitted\n")
     }
 }
 
-pub fn answer(rt: &impl Print, o: Ordering, first: &[u64], second: &[u64]) -> io::Result<()> {
-    let e = o.eligibility;
-    eligibility(rt, e, first, second)?;
+pub fn answer(rt: &impl Print, o: Ordering, lists: &Lists) -> io::Result<()> {
+    match o.eligibility {
+        Ok(e) => eligibility(rt, e, lists)?,
+        Err(r) => refusal(rt, r)?,
+    }
     text(rt, b", read")?;
     word(rt, o.read)?;
-    permitted(rt, e)
+    permitted(rt, o.eligibility)
 }
 
 pub fn judged(rt: &impl Print, label: &[u8], id: u64, j: Result<(), Refusal>) -> io::Result<()> {

@@ -17,8 +17,8 @@ use Rattle.tabled.proofs.Kept.{word_kept}
 use Rattle.owned.specs.Marks.{Marked, root_row, root_found, root_of}
 
 module _ (rows : List ℕ) (h x : ℕ) (f : Found) (is : f ≡ where_is (ids rows held_width h) x) where
-  pub root_room : (r : ℕ) → f ≡ At r → h * held_width ≤ length rows → r * held_width + held_width ≤ length rows
-  root_room r e fit = omega (arith, (row-found rows held_width h x r (sym is ∙ e)).0)
+  pub root_below : (r : ℕ) → f ≡ At r → r < h
+  root_below r e = (row-found rows held_width h x r (sym is ∙ e)).0
 
   pub root_at : (r : ℕ) (t : Bool) → f ≡ At r → t ≡ root_row rows r → t ≡ root_of rows h x
   unfolding root_of

@@ -5,7 +5,7 @@ use mathlib.Core.Path.{◌≡◌, refl}
 use mathlib.Core.List.{[], ◌∷◌}
 use Rattle.answers.specs.declared.RefusalWords.{RefusalWords}
 use Rattle.answers.specs.declared.DagChangeReason.TheVariants.{Split, Merge, Unknown}
-use Rattle.answers.specs.declared.Eligibility.TheVariants as E
+use Rattle.answers.specs.Verdict as E
 use Rattle.answers.specs.declared.Updated.TheVariants as U
 use Rattle.texts.specs.Decimal.{decimal, signed}
 use Rattle.texts.specs.CommaList.{commas, listed, pairs_listed}

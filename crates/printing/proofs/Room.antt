@@ -11,8 +11,8 @@ use lib.Dec.{eqb}
 use lib.ListN.{length, take, length-append, length-take}
 use Rattle.answers.specs.declared.RefusalWords.{RefusalWords}
 use Rattle.answers.specs.declared.DagDelta.{DagDelta}
-use Rattle.answers.specs.declared.Eligibility.{Eligibility}
-use Rattle.answers.specs.declared.Eligibility.TheVariants as E
+use Rattle.answers.specs.Verdict.{Verdict}
+use Rattle.answers.specs.Verdict as E
 use Rattle.answers.specs.declared.Updated.{Updated}
 use Rattle.answers.specs.declared.Updated.TheVariants as U
 use Rattle.answers.specs.Answer.{words_of}
@@ -108,14 +108,14 @@ updated-fits (U.Accepted d) rows order added removed splits merges few = accepte
 
 -- ---- queries
 
-abbrev pub Short : Eligibility → Type 0
+abbrev pub Short : Verdict → Type 0
 Short (E.Refused r) = Unit
 Short (E.Unprovable id n) = n ≤ 65
 Short (E.Blocked n m) = (n ≤ 65) × (m ≤ 65)
 Short E.Eligible = Unit
 Short (E.BrokerManaged m) = m ≤ 65
 
-pub ordering-fits : (e : Eligibility) (first second : List ℕ) → Short e → length (shown_ordering e first second) ≤ 2736
+pub ordering-fits : (e : Verdict) (first second : List ℕ) → Short e → length (shown_ordering e first second) ≤ 2736
 unfolding shown_unprovable shown_blocked shown_managed
 ordering-fits (E.Refused r) one two few = omega (arith, refusal-fits (words_of r))
 ordering-fits (E.Unprovable id n) one two few =

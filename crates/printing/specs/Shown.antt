@@ -8,8 +8,8 @@ use Rattle.answers.specs.declared.RefusalWords.{RefusalWords}
 use Rattle.answers.specs.declared.DagChangeReason.{DagChangeReason}
 use Rattle.answers.specs.declared.DagChangeReason.TheVariants.{Split, Merge, SegmentRemoved, Unknown}
 use Rattle.answers.specs.declared.DagDelta.{DagDelta}
-use Rattle.answers.specs.declared.Eligibility.{Eligibility}
-use Rattle.answers.specs.declared.Eligibility.TheVariants as E
+use Rattle.answers.specs.Verdict.{Verdict}
+use Rattle.answers.specs.Verdict as E
 use Rattle.answers.specs.declared.Updated.{Updated}
 use Rattle.answers.specs.declared.Updated.TheVariants as U
 use Rattle.answers.specs.Answer.{words_by, words_of, eligibility_number, eligibility_values}
@@ -86,7 +86,7 @@ unfoldable pub shown_managed : ℕ → List ℕ → List ℕ
 shown_managed m remote = line (code "M") (listed m remote ∷ [])
 
 -- An ordering query's answer, with the two lists that it was lent. 51's list stands in the first.
-abbrev pub shown_ordering : Eligibility → List ℕ → List ℕ → List ℕ
+abbrev pub shown_ordering : Verdict → List ℕ → List ℕ → List ℕ
 shown_ordering (E.Refused r) first second = shown_refusal (words_of r)
 shown_ordering (E.Unprovable id n) first second = shown_unprovable id n first
 shown_ordering (E.Blocked n m) first second = shown_blocked n first m second

@@ -4,7 +4,7 @@ ghost use Rattle.texts.specs.Written.{Wrote};
 
 use crate::fields::{field_list, last_list, last_number, put_bare};
 use crate::refusals::{put_refusal, put_refused};
-use answers::{Eligibility, RefusalWords};
+use answers::{Eligibility, Refusal, RefusalWords};
 use texts::area::put_byte;
 
 fn put_unprovable(out: &mut [u8], at: usize, id: u64, list: &[u64], count: usize) -> usize
@@ -49,18 +49,20 @@ fn put_managed(out: &mut [u8], at: usize, second: &[u64], m: usize) -> usize
 pub fn put_ordering(
     out: &mut [u8],
     at: usize,
-    answer: Eligibility,
+    answer: Result<Eligibility, Refusal>,
     first: &[u64],
     second: &[u64],
 ) -> usize
     ensures { Wrote out.old at (shown_ordering answer first.now second.now) out.new result }
 {
     match answer {
-        Eligibility::Refused(r) => put_refusal(out, at, r.into()),
-        Eligibility::Unprovable(id, n) => put_unprovable(out, at, id, first, n),
-        Eligibility::Blocked(n, m) => put_blocked(out, at, first, n, second, m),
-        Eligibility::Eligible => put_bare(out, at, b'E'),
-        Eligibility::BrokerManaged(m) => put_managed(out, at, second, m),
+        Err(r) => put_refusal(out, at, r.into()),
+        Ok(Eligibility::Unprovable { id, count }) => put_unprovable(out, at, id, first, count),
+        Ok(Eligibility::Blocked { incomplete, remote }) => {
+            put_blocked(out, at, first, incomplete, second, remote)
+        }
+        Ok(Eligibility::Eligible) => put_bare(out, at, b'E'),
+        Ok(Eligibility::BrokerManaged { remote }) => put_managed(out, at, second, remote),
     }
 }
 

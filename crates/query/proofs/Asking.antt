@@ -11,7 +11,7 @@ use Rattle.words.specs.Part.{part}
 use Rattle.words.specs.Table.{ids, where_is, Ascends, Found, At, Nothing}
 use Rattle.words.proofs.TableLaws.{row-found, hit}
 use Rattle.answers.specs.declared.Ordering.{Ordering}
-use Rattle.answers.specs.declared.Eligibility.{Eligibility}
+use Rattle.answers.specs.Verdict.{Verdict}
 use Rattle.types.specs.declared.records.OrderingMode.{OrderingMode}
 use Rattle.types.specs.declared.records.OrderingMode.TheVariants.{Strict, BrokerManaged}
 use Rattle.rules.specs.Model.{Segment, ids_of}
@@ -66,7 +66,7 @@ module _ (rows edges : List ℕ) (h : ℕ) (t : Tabled rows edges h) (mode : Ord
     known : r < h → has id (ids_of S) ≡ true
     known below = has-row rows edges h id ∙ ap hit (ap (where_is (ids rows held_width h)) (sym own) ∙ row_at rows edges h t.up r below)
 
-    pub asked-row : r < h → (told : Eligibility) (first first' second second' : List ℕ)
+    pub asked-row : r < h → (told : Verdict) (first first' second second' : List ℕ)
         → Told (row_answer mode id (pruned_in rows h id (part w b all.count)) (remote_in history completed (part w b all.count)) (incomplete_in history completed (part w b all.count))) told first first' second second'
         → Replied (ordering S mode id history completed) (record { eligibility = told; read = all.read }) first first' second second'
     asked-row below told first first' second second' a = go (subst Ended listed a)

@@ -11,8 +11,8 @@ use Rattle.lists.specs.Lists.{front, tick}
 use Rattle.lists.specs.Sets.{keep}
 use Rattle.lists.proofs.SetLaws.{keep_same}
 use Rattle.words.specs.Part.{part}
-use Rattle.answers.specs.declared.Eligibility.{Eligibility}
-use Rattle.answers.specs.declared.Eligibility.TheVariants as E
+use Rattle.answers.specs.Verdict.{Verdict}
+use Rattle.answers.specs.Verdict as E
 use Rattle.types.specs.declared.records.OrderingMode.{OrderingMode}
 use Rattle.types.specs.declared.records.OrderingMode.TheVariants.{Strict, BrokerManaged}
 use Rattle.owned.specs.Marks.{Marked, root_of, status_of, with_mark}
@@ -33,7 +33,7 @@ module _ (id : ℕ) (f f₁ s : List ℕ) where
       where
         go : (R : List ℕ) → Put R f f₁ r → Told (open_answer Strict id R I) (E.Unprovable id r) f f₁ s s
         go [] p = absurd (omega (arith, p.1))
-        go (x ∷ R) p = record { told_is = λ n. ap (E.Unprovable id) p.1; first-is = λ n. p.0; second_is = λ n. refl }
+        go (x ∷ R) p = record { told_is = λ n. ap (λ (k : ℕ). E.Unprovable id k) p.1; first-is = λ n. p.0; second_is = λ n. refl }
 
     -- the same of what comes after, where no ancestor is remote
     module _ (none : r ≤ 0) (f₂ : List ℕ) (i : ℕ) (q : Put I f₁ f₂ i) where
@@ -70,7 +70,7 @@ module _ (id : ℕ) (f f₁ s : List ℕ) where
           go : (R : List ℕ) → Put R s s₁ r → (I : List ℕ) → Put I f f₁ i → Told (open_answer BrokerManaged id R I) (E.BrokerManaged r) f f₁ s s₁
           go R p (y ∷ I) q = absurd (omega (arith, q.1))
           go [] p [] q = absurd (omega (arith, p.1))
-          go (x ∷ R) p [] q = record { told_is = λ n. ap E.BrokerManaged p.1; first-is = λ n. q.0; second_is = λ n. p.0 }
+          go (x ∷ R) p [] q = record { told_is = λ n. ap (λ (m : ℕ). E.BrokerManaged m) p.1; first-is = λ n. q.0; second_is = λ n. p.0 }
 
       pub managed-eligible : r ≤ 0 → Told (open_answer BrokerManaged id R I) E.Eligible f f₁ s s₁
       managed-eligible h = go R p I q
@@ -81,7 +81,7 @@ module _ (id : ℕ) (f f₁ s : List ℕ) where
           go [] p [] q = record { told_is = λ n. refl; first-is = λ n. q.0; second_is = λ n. p.0 }
 
 -- the mode, which a match has told
-pub told-mode : (mode m : OrderingMode) (id : ℕ) (R I : List ℕ) (t : Eligibility) (f f' s s' : List ℕ) → mode ≡ m → Told (open_answer m id R I) t f f' s s' → Told (open_answer mode id R I) t f f' s s'
+pub told-mode : (mode m : OrderingMode) (id : ℕ) (R I : List ℕ) (t : Verdict) (f f' s s' : List ℕ) → mode ≡ m → Told (open_answer m id R I) t f f' s s' → Told (open_answer mode id R I) t f f' s s'
 told-mode mode m id R I t f f' s s' e h = rw e h
 
 -- ---- pruned roots
@@ -89,9 +89,9 @@ told-mode mode m id R I t f f' s s' e h = rw e h
 module _ (mode : OrderingMode) (id : ℕ) (R I f f₁ s : List ℕ) (r : ℕ) where
   pub told-pruned : (P : List ℕ) → Put P f f₁ r → 0 < r → Told (row_answer mode id P R I) (E.Unprovable id r) f f₁ s s
   told-pruned [] p h = absurd (omega (arith, p.1))
-  told-pruned (x ∷ P) p h = record { told_is = λ n. ap (E.Unprovable id) p.1; first-is = λ n. p.0; second_is = λ n. refl }
+  told-pruned (x ∷ P) p h = record { told_is = λ n. ap (λ (k : ℕ). E.Unprovable id k) p.1; first-is = λ n. p.0; second_is = λ n. refl }
 
-  pub told-open : (P : List ℕ) (t : Eligibility) (f₂ s₂ : List ℕ) → Put P f f₁ r → r ≤ 0 → Told (open_answer mode id R I) t f₁ f₂ s s₂ → Told (row_answer mode id P R I) t f f₂ s s₂
+  pub told-open : (P : List ℕ) (t : Verdict) (f₂ s₂ : List ℕ) → Put P f f₁ r → r ≤ 0 → Told (open_answer mode id R I) t f₁ f₂ s s₂ → Told (row_answer mode id P R I) t f f₂ s s₂
   told-open (x ∷ P) t f₂ s₂ p h o = absurd (omega (arith, p.1))
   told-open [] t f₂ s₂ p h o = rw p.0 at o
 
@@ -116,7 +116,7 @@ pub pruned-listed : (rows : List ℕ) (h b s k : ℕ) (w w' : List ℕ) → Mark
 pruned-listed rows h b s k w w' m apart room = with-keep (λ x. tick (root_of rows h x)) b s k w w' m apart room 1 ∙ root-mark rows h (part w b k)
 
 -- the answer past the pruned roots: w₁ is the work area once the pruned roots were listed, w₂ once what was owned is marked
-pub told-owned : (mode : OrderingMode) (id : ℕ) (history completed : List ℕ) (b s k : ℕ) (w w₁ w₂ : List ℕ) (t : Eligibility) (f f' l l' : List ℕ) → b + k ≤ s → s + k ≤ length w₁ → take s w₁ ≡ take s w
+pub told-owned : (mode : OrderingMode) (id : ℕ) (history completed : List ℕ) (b s k : ℕ) (w w₁ w₂ : List ℕ) (t : Verdict) (f f' l l' : List ℕ) → b + k ≤ s → s + k ≤ length w₁ → take s w₁ ≡ take s w
     → Marked (status_of history completed) b s k w₁ w₂ → Told (open_answer mode id (with_mark w₂ b s 0 k) (with_mark w₂ b s 1 k)) t f f' l l'
     → Told (open_answer mode id (remote_in history completed (part w b k)) (incomplete_in history completed (part w b k))) t f f' l l'
 told-owned mode id history completed b s k w w₁ w₂ t f f' l l' apart room front m h =

@@ -1,29 +1,34 @@
 // The answer of a segment that has a row, once its ancestors stand in the work area: k ids from word b on, ascending, with room for a mark
 // each from word s on.
-ghost use Rattle.std.specs.Prelude.{◌≡◌, List, ℕ, ◌+◌, ◌*◌, ◌<◌, ◌≤◌, length, take};
+ghost use Rattle.std.specs.Prelude.{◌≡◌, List, ℕ, ◌+◌, ◌<◌, ◌≤◌, length, take};
 ghost use Rattle.lists.specs.Lists.{front};
 ghost use Rattle.words.specs.Part.{part};
-ghost use Rattle.words.specs.Table.{ids, Ascends};
+ghost use Rattle.words.specs.Table.{Ascends};
 ghost use Rattle.types.specs.declared.records.OrderingMode.TheVariants.{Strict, BrokerManaged};
-ghost use Rattle.rules.specs.Tables.{held_width};
+ghost use Rattle.types.specs.Lent.{SameLists};
 ghost use Rattle.owned.specs.Marks.{with_mark};
-ghost use Rattle.query.specs.Told.{Told, open_answer, row_answer, pruned_in, remote_in, incomplete_in};
+ghost use Rattle.query.specs.Told.{Told, open_answer, answer_for, pruned_in};
 
 use answers::Eligibility;
+use held::Held;
+use types::lent::{History, Lists};
 use types::records::OrderingMode;
 
 // Every ancestor must have been owned and completed here. Marks: 0 never owned, 1 owned and not completed.
 fn answer_strict(id: u64, w: &[u64], b: usize, k: usize, s: usize, first: &mut [u64]) -> Eligibility
     requires { (b + k ≤ s) × (s + k ≤ length w.now) × (k ≤ length first.old) }
-    ensures { (l : List ℕ) → Told (open_answer Strict id (with_mark w.now b s 0 k) (with_mark w.now b s 1 k)) result first.old first.new l l }
+    ensures { (l : List ℕ) → Told (open_answer Strict id (with_mark w.now b s 0 k) (with_mark w.now b s 1 k)) (Ok result) first.old first.new l l }
 {
     let remote = owned::by_mark::list_marked(w, b, k, s, 0, first);
     if 0 < remote {
-        return Eligibility::Unprovable(id, remote);
+        return Eligibility::Unprovable { id, count: remote };
     }
     let incomplete = owned::by_mark::list_marked(w, b, k, s, 1, first);
     if 0 < incomplete {
-        return Eligibility::Blocked(incomplete, 0);
+        return Eligibility::Blocked {
+            incomplete,
+            remote: 0,
+        };
     }
     Eligibility::Eligible
 }
@@ -39,15 +44,15 @@ fn answer_managed(
     second: &mut [u64],
 ) -> Eligibility
     requires { (b + k ≤ s) × (s + k ≤ length w.now) × (k ≤ length first.old) × (k ≤ length second.old) }
-    ensures { Told (open_answer BrokerManaged id (with_mark w.now b s 0 k) (with_mark w.now b s 1 k)) result first.old first.new second.old second.new }
+    ensures { Told (open_answer BrokerManaged id (with_mark w.now b s 0 k) (with_mark w.now b s 1 k)) (Ok result) first.old first.new second.old second.new }
 {
     let remote = owned::by_mark::list_marked(w, b, k, s, 0, second);
     let incomplete = owned::by_mark::list_marked(w, b, k, s, 1, first);
     if 0 < incomplete {
-        return Eligibility::Blocked(incomplete, remote);
+        return Eligibility::Blocked { incomplete, remote };
     }
     if 0 < remote {
-        return Eligibility::BrokerManaged(remote);
+        return Eligibility::BrokerManaged { remote };
     }
     Eligibility::Eligible
 }
@@ -63,7 +68,7 @@ fn answer_open(
     second: &mut [u64],
 ) -> Eligibility
     requires { (b + k ≤ s) × (s + k ≤ length w.now) × (k ≤ length first.old) × (k ≤ length second.old) }
-    ensures { Told (open_answer mode id (with_mark w.now b s 0 k) (with_mark w.now b s 1 k)) result first.old first.new second.old second.new }
+    ensures { Told (open_answer mode id (with_mark w.now b s 0 k) (with_mark w.now b s 1 k)) (Ok result) first.old first.new second.old second.new }
 {
     match mode {
         OrderingMode::Strict => answer_strict(id, w, b, k, s, first),
@@ -73,8 +78,7 @@ fn answer_open(
 
 // The pruned roots among the segment and its ancestors, at the front of the list. A segment that is one has no ancestors.
 fn list_pruned(
-    rows: &[u64],
-    h: usize,
+    held: &Held,
     id: u64,
     w: &mut [u64],
     b: usize,
@@ -82,44 +86,43 @@ fn list_pruned(
     s: usize,
     first: &mut [u64],
 ) -> usize
-    requires held_width_in_bounds { (h * held_width ≤ length rows.now) × Ascends (ids rows.now held_width h) }
-    requires k_bound { (b + k ≤ s) × (s + k ≤ length w.old) × (k < length first.old) }
-    ensures first_after { first.new ≡ front (pruned_in rows.now h id (part w.old b k)) first.old }
-    ensures value { result ≡ length (pruned_in rows.now h id (part w.old b k)) }
+    requires { (b + k ≤ s) × (s + k ≤ length w.old) × (k < length first.old) }
+    ensures first_after { first.new ≡ front (pruned_in held.now.rows.now held.now.count id (part w.old b k)) first.old }
+    ensures value { result ≡ length (pruned_in held.now.rows.now held.now.count id (part w.old b k)) }
     ensures w_unchanged { take s w.new ≡ take s w.old }
 {
-    if owned::roots::is_root(rows, h, id, 0) {
+    if owned::roots::is_root(held, id, 0) {
         first[0] = id;
         return 1;
     }
-    owned::roots::mark_roots(rows, h, w, b, k, s);
+    owned::roots::mark_roots(held, w, b, k, s);
     owned::by_mark::list_marked(w, b, k, s, 1, first)
 }
 
 // 51 for pruned roots, in both modes; else what the history and the completed list make of the ancestors.
 pub fn answer_row(
-    rows: &[u64],
-    h: usize,
+    held: &Held,
     mode: OrderingMode,
     id: u64,
-    history: &[u64],
-    completed: &[u64],
+    history: &History,
     w: &mut [u64],
     b: usize,
     k: usize,
     s: usize,
-    first: &mut [u64],
-    second: &mut [u64],
+    lists: &mut Lists,
 ) -> Eligibility
-    requires held_width_in_bounds { (h * held_width ≤ length rows.now) × Ascends (ids rows.now held_width h) }
-    requires k_bound { (b + k ≤ s) × (s + k ≤ length w.old) × Ascends (part w.old b k) }
-    requires k_in_bounds { (k < length first.old) × (k ≤ length second.old) }
-    ensures { Told (row_answer mode id (pruned_in rows.now h id (part w.old b k)) (remote_in history.now completed.now (part w.old b k)) (incomplete_in history.now completed.now (part w.old b k))) result first.old first.new second.old second.new }
+    requires ascends { (b + k ≤ s) × (s + k ≤ length w.old) × Ascends (part w.old b k) }
+    requires room { (k < length lists.old.first.now) × (k ≤ length lists.old.second.now) }
+    ensures same { SameLists lists.old lists.new }
+    ensures told { Told (answer_for held.now mode id history.now (part w.old b k)) (Ok result)
+        lists.old.first.now lists.new.first.now lists.old.second.now lists.new.second.now }
 {
-    let pruned = list_pruned(rows, h, id, w, b, k, s, first);
+    let first = &mut *lists.first;
+    let second = &mut *lists.second;
+    let pruned = list_pruned(held, id, w, b, k, s, first);
     if 0 < pruned {
-        return Eligibility::Unprovable(id, pruned);
+        return Eligibility::Unprovable { id, count: pruned };
     }
-    owned::marks::mark_owned(w, b, k, s, history, completed);
+    owned::marks::mark_owned(w, b, k, s, history.owned, history.completed);
     answer_open(mode, id, w, b, k, s, first, second)
 }

@@ -4,6 +4,8 @@
 use crate::areas::Difference;
 use crate::{areas, line, names};
 use answers::Ordering;
+use held::HeldTables;
+use types::lent::{History, Lists};
 use types::records::{OrderingMode, SegmentId};
 
 const ANSWER: usize = 5;
@@ -34,19 +36,24 @@ fn compare_answer(answer: Ordering, line: &[u64]) -> Difference {
 }
 
 // The call, and what it answers by value.
-fn ask(line: &[u64], work: &mut [u64], first: &mut [u64], second: &mut [u64]) -> Difference {
+fn ask(line: &[u64], work: &mut [u64], lists: &mut Lists) -> Difference {
+    let tables = HeldTables {
+        rows: line::table(line, PARTS, 0),
+        edges: line::table(line, PARTS, 1),
+        count: line::number_at(line, 1) as usize,
+        edge_count: line::number_at(line, 2) as usize,
+    };
+    let history = History {
+        owned: line::table(line, PARTS, 2),
+        completed: line::table(line, PARTS, 3),
+    };
     let answer = ordering::ordering_eligibility(
-        line::table(line, PARTS, 0),
-        line::table(line, PARTS, 1),
-        line::number_at(line, 1) as usize,
-        line::number_at(line, 2) as usize,
+        &tables,
         mode_of(line::number_at(line, 3)),
         SegmentId(line::number_at(line, 4)),
-        line::table(line, PARTS, 2),
-        line::table(line, PARTS, 3),
+        &history,
         work,
-        first,
-        second,
+        lists,
     );
     compare_answer(answer, line)
 }
@@ -64,7 +71,11 @@ pub fn replay(line: &[u64]) -> Difference {
     let w = areas::length_of(line, PARTS, 4);
     let f = areas::length_of(line, PARTS, 5);
     let s = areas::length_of(line, PARTS, 6);
-    let d = ask(line, &mut work[0..w], &mut first[0..f], &mut second[0..s]);
+    let mut lists = Lists {
+        first: &mut first[..f],
+        second: &mut second[..s],
+    };
+    let d = ask(line, &mut work[..w], &mut lists);
     let d = areas::compare(d, names::WORK, &work, line, PARTS, 4, 7);
     let d = areas::compare(d, names::FIRST, &first, line, PARTS, 5, 8);
     areas::compare(d, names::SECOND, &second, line, PARTS, 6, 9)

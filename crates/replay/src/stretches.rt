@@ -2,6 +2,7 @@
 // held edges, and the stretch that is expected, each as a table.
 use crate::areas::Difference;
 use crate::{areas, line, names};
+use held::HeldTables;
 use types::records::SegmentId;
 
 const ANSWER: usize = 5;
@@ -17,40 +18,28 @@ fn compare_stretch(d: Difference, list: &[u64], line: &[u64]) -> Difference {
 }
 
 // The stretch alone.
-fn ask(d: Difference, line: &[u64], rows: &[u64], edges: &[u64]) -> Difference {
-    let h = line::number_at(line, 2) as usize;
-    let g = line::number_at(line, 3) as usize;
-    let id = line::number_at(line, 4);
+fn ask(d: Difference, line: &[u64], tables: &HeldTables) -> Difference {
+    let id = SegmentId(line::number_at(line, 4));
     if d.what != 0 {
         return d;
     }
     if line::number_at(line, 1) == 0 {
-        return compare_stretch(
-            d,
-            ordering::children_of(rows, edges, h, g, SegmentId(id)),
-            line,
-        );
+        return compare_stretch(d, ordering::children_of(tables, id), line);
     }
-    compare_stretch(
-        d,
-        ordering::parents_of(rows, edges, h, g, SegmentId(id)),
-        line,
-    )
+    compare_stretch(d, ordering::parents_of(tables, id), line)
 }
 
 pub fn replay(line: &[u64]) -> Difference {
     if !line::is_whole(line, PARTS, 3, 3) {
         return areas::UNREAD;
     }
-    let rows = line::table(line, PARTS, 0);
-    let edges = line::table(line, PARTS, 1);
-    let judged = ordering::judge_known(
-        rows,
-        edges,
-        line::number_at(line, 2) as usize,
-        line::number_at(line, 3) as usize,
-        SegmentId(line::number_at(line, 4)),
-    );
+    let tables = HeldTables {
+        rows: line::table(line, PARTS, 0),
+        edges: line::table(line, PARTS, 1),
+        count: line::number_at(line, 2) as usize,
+        edge_count: line::number_at(line, 3) as usize,
+    };
+    let judged = ordering::judge_known(&tables, SegmentId(line::number_at(line, 4)));
     let d = areas::compare_refusal(judged, line, ANSWER);
-    ask(d, line, rows, edges)
+    ask(d, line, &tables)
 }

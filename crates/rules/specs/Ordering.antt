@@ -6,8 +6,8 @@ use Rattle.lists.specs.Lists as Lists
 use Rattle.lists.specs.Lists.{has, front}
 use Rattle.lists.specs.Sets.{keep}
 use Rattle.answers.specs.declared.Refusal.{Refusal}
-use Rattle.answers.specs.declared.Eligibility.{Eligibility}
-use Rattle.answers.specs.declared.Eligibility.TheVariants as E
+use Rattle.answers.specs.Verdict.{Verdict}
+use Rattle.answers.specs.Verdict as E
 use Rattle.answers.specs.declared.Ordering.{Ordering}
 use Rattle.answers.specs.Answer.{when, ◌then◌, Judged, Accepted, Refused}
 use Rattle.types.specs.declared.records.OrderingMode.{OrderingMode}
@@ -71,7 +71,7 @@ ordering S mode c history completed =
     (unknown c)
 
 -- the by-value answer, what is written to the front of each ordering list, and the count
-abbrev pub told_of : Answer → Eligibility
+abbrev pub told_of : Answer → Verdict
 told_of (unknown c) = E.Refused (UnknownSegment c)
 told_of (unprovable c xs n) = E.Unprovable c (length xs)
 told_of (blocked xs rs n) = E.Blocked (length xs) (length rs)
@@ -161,7 +161,7 @@ order_work_after (refused_at r) work = work
 order_work_after (answered a) work = replicate (length work) 0
 
 -- `permits_flow`
-abbrev pub permits_flow : Eligibility → Bool
+abbrev pub permits_flow : Verdict → Bool
 permits_flow (E.Refused r) = false
 permits_flow (E.Unprovable id n) = false
 permits_flow (E.Blocked n m) = false

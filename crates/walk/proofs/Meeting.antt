@@ -1,4 +1,4 @@
--- What it is to read parents: the rows met stay as they must (`Held`), what is new among them, which marks are 1, and which ids without a
+-- What it is to read parents: the rows met stay as they must (`MetOnce`), what is new among them, which marks are 1, and which ids without a
 -- row are listed.
 -- Assumes nothing.
 use Prim.Native.Nat.{ℕ, ◌+◌, ◌<◌, ◌≤◌}
@@ -18,7 +18,7 @@ use Rattle.lists.proofs.SortLaws.{true-or-false}
 use Rattle.lists.proofs.SetLaws.{never, here, here_eq, there, in-cons, in_left, has-append}
 use Rattle.words.specs.Table.{where_is, Ascends, Found, At, Nothing}
 use Rattle.words.proofs.TableLaws.{at-is, nothing_is, hit}
-use Rattle.walk.specs.Met.{Met, met, meet_row, meet, meet_all, Single, Held}
+use Rattle.walk.specs.Met.{Met, met, meet_row, meet, meet_all, Single, MetOnce}
 use Rattle.walk.proofs.Singles.{both, out, in-snoc, snoc_old, snoc_new, single-snoc, no_more}
 
 -- an id that no row of the table has
@@ -60,7 +60,7 @@ and-joined false false c d = refl
 
 -- ---- one row
 
-module _ (n : ℕ) (s : Met) (h : Held n s) (r : ℕ) (lt : r < n) where
+module _ (n : ℕ) (s : Met) (h : MetOnce n s) (r : ℕ) (lt : r < n) where
   -- a row without a mark was not met
   not-met : get_or s.mark r 0 ≡ 0 → r ∉ s.list
   not-met z = out r s.list (λ i. absurd (omega (arith, h.marked r i)))
@@ -90,7 +90,7 @@ module _ (n : ℕ) (s : Met) (h : Held n s) (r : ℕ) (lt : r < n) where
     gone x o (yes e) = both r l has_r (rw e at o)
     gone x o (no q) = get_or-set_other s.mark r x 1 0 q ∙ h.unmarked x (out x s.list (λ i. both x l (old x i) o))
 
-    held-mark : Held n (met (set s.mark r 1) l b)
+    held-mark : MetOnce n (met (set s.mark r 1) l b)
     held-mark =
         record {
           size = length-set s.mark r 1 ∙ h.size;
@@ -100,10 +100,10 @@ module _ (n : ℕ) (s : Met) (h : Held n s) (r : ℕ) (lt : r < n) where
           unmarked = λ x o. gone x o (ℕ_discrete x r);
         }
 
-  held_new : get_or s.mark r 0 ≡ 0 → Held n (met (set s.mark r 1) (s.list ++ (r ∷ [])) s.bare)
+  held_new : get_or s.mark r 0 ≡ 0 → MetOnce n (met (set s.mark r 1) (s.list ++ (r ∷ [])) s.bare)
   held_new z = held-mark (s.list ++ (r ∷ [])) s.bare (single-snoc r s.list h.single (not-met z)) (snoc_new r s.list) (λ x i. snoc_old x r s.list i) (λ x i. in-snoc x r s.list i)
 
-  held-old : (get_or s.mark r 0 ≡ 0 → ⊥) → Held n (met (set s.mark r 1) s.list s.bare)
+  held-old : (get_or s.mark r 0 ≡ 0 → ⊥) → MetOnce n (met (set s.mark r 1) s.list s.bare)
   held-old z = held-mark s.list s.bare h.single (was-met z) (λ x i. i) (λ x i. inl i)
 
 -- ---- all parents of a row
@@ -111,7 +111,7 @@ module _ (n : ℕ) (s : Met) (h : Held n s) (r : ℕ) (lt : r < n) where
 module _ (n : ℕ) (table : List ℕ) (size : length table ≡ n) (up : Ascends table) where
   -- what ps have done to s: us are the new rows
   pub record MetAll (ps us : List ℕ) (s s' : Met) : Type 0 where
-    pub held : Held n s'
+    pub held : MetOnce n s'
     pub longer : s'.list ≡ s.list ++ us
     pub fresh : (x : ℕ) → x ∈ us → (p : ℕ) × (p ∈ ps) × (where_is table p ≡ At x)
     pub here-all : (p r : ℕ) → p ∈ ps → where_is table p ≡ At r → r ∈ s'.list
@@ -135,7 +135,7 @@ module _ (n : ℕ) (table : List ℕ) (size : length table ≡ n) (up : Ascends 
   not-here p x q = rw (ne_eqb p (get_or table x 0) (λ e. q (sym e))) refl
 
   -- p has no row
-  none-met : (p : ℕ) (s : Met) → where_is table p ≡ Nothing → Held n s → MetAll (p ∷ []) [] s (meet_row Nothing p s)
+  none-met : (p : ℕ) (s : Met) → where_is table p ≡ Nothing → MetOnce n s → MetAll (p ∷ []) [] s (meet_row Nothing p s)
   none-met p s e h =
       record {
         held = record { size = h.size; single = h.single; below = h.below; marked = h.marked; unmarked = h.unmarked };
@@ -151,7 +151,7 @@ module _ (n : ℕ) (table : List ℕ) (size : length table ≡ n) (up : Ascends 
       lost q r i k = let z : q ≡ p = only p q i in let g : where_is table p ≡ At r = rw z at k in let y : ◌≡◌ {A = ℕ} 0 1 = cc in omega arith
 
   -- p has row r
-  module _ (p r : ℕ) (s : Met) (e : where_is table p ≡ At r) (h : Held n s) where
+  module _ (p r : ℕ) (s : Met) (e : where_is table p ≡ At r) (h : MetOnce n s) where
     lt : r < n
     lt = omega (arith, (at-is table p r e).0, size)
 
@@ -173,7 +173,7 @@ module _ (n : ℕ) (table : List ℕ) (size : length table ≡ n) (up : Ascends 
             (λ (k : r ≤ x). let d : r < x = omega (arith, q) in omega (arith, up r x d (omega (arith, size)), z))
             (lt-or-le x r)
 
-    row-met : (us l : List ℕ) → Held n (met (set s.mark r 1) l s.bare) → l ≡ s.list ++ us → ((x : ℕ) → x ∈ us → x ≡ r) → r ∈ l → MetAll (p ∷ []) us s (met (set s.mark r 1) l s.bare)
+    row-met : (us l : List ℕ) → MetOnce n (met (set s.mark r 1) l s.bare) → l ≡ s.list ++ us → ((x : ℕ) → x ∈ us → x ≡ r) → r ∈ l → MetAll (p ∷ []) us s (met (set s.mark r 1) l s.bare)
     row-met us l k longer new has_r =
         record {
           held = k;
@@ -192,16 +192,16 @@ module _ (n : ℕ) (table : List ℕ) (size : length table ≡ n) (up : Ascends 
         go true b = (r ∷ [], row-met (r ∷ []) (s.list ++ (r ∷ [])) (held_new n s h r lt (eqb-true _ _ b)) refl (λ x i. only r x i) (snoc_new r s.list))
         go false b = ([], row-met [] s.list (held-old n s h r lt (eqb-false _ _ b)) (sym (append-nil s.list)) (λ x i. never i) (was-met n s h r lt (eqb-false _ _ b)))
 
-  one : (p : ℕ) (f : Found) (s : Met) → where_is table p ≡ f → Held n s → (us : List ℕ) × MetAll (p ∷ []) us s (meet_row f p s)
+  one : (p : ℕ) (f : Found) (s : Met) → where_is table p ≡ f → MetOnce n s → (us : List ℕ) × MetAll (p ∷ []) us s (meet_row f p s)
   one p Nothing s e h = ([], none-met p s e h)
   one p (At r) s e h = one-met p r s e h
 
-  pub held-meet : (p : ℕ) (s : Met) → Held n s → Held n (meet table p s)
+  pub held-meet : (p : ℕ) (s : Met) → MetOnce n s → MetOnce n (meet table p s)
   held-meet p s h = (one p (where_is table p) s refl h).1.held
 
   -- ---- all
 
-  pub met_all : (ps : List ℕ) (s : Met) → Held n s → (us : List ℕ) × MetAll ps us s (meet_all table ps s)
+  pub met_all : (ps : List ℕ) (s : Met) → MetOnce n s → (us : List ℕ) × MetAll ps us s (meet_all table ps s)
   unfolding meet_all
   met_all [] s h = (
     [],
@@ -217,7 +217,7 @@ module _ (n : ℕ) (table : List ℕ) (size : length table ≡ n) (up : Ascends 
   )
   met_all (q ∷ ps) s h = go (one q (where_is table q) s refl h) (met_all ps (meet table q s))
     where
-      go : (us : List ℕ) × MetAll (q ∷ []) us s (meet table q s) → (Held n (meet table q s) → (us : List ℕ) × MetAll ps us (meet table q s) (meet_all table ps (meet table q s)))
+      go : (us : List ℕ) × MetAll (q ∷ []) us s (meet table q s) → (MetOnce n (meet table q s) → (us : List ℕ) × MetAll ps us (meet table q s) (meet_all table ps (meet table q s)))
           → (us : List ℕ) × MetAll (q ∷ ps) us s (meet_all table ps (meet table q s))
       go (us, a) f = join (f a.held)
         where

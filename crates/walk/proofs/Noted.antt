@@ -9,7 +9,7 @@ use Rattle.words.specs.Table.{ids, Ascends}
 use Rattle.words.proofs.TableLaws.{length_ids, ids_at}
 use Rattle.rules.specs.Tables.{held_width}
 use Rattle.tabled.proofs.Kept.{part-kept}
-use Rattle.walk.specs.Met.{met, marks_in, list_in, bare_in, met_in, meet_all, Held, StartsIn}
+use Rattle.walk.specs.Met.{met, marks_in, list_in, bare_in, met_in, meet_all, MetOnce, StartsIn}
 use Rattle.walk.proofs.Sorting.{part-ids}
 use Rattle.walk.proofs.Steps.{starts-kept}
 
@@ -43,8 +43,8 @@ module _ (rows edges : List ℕ) (n : ℕ) (w w' : List ℕ) (len k : ℕ) (same
   pub starts-there : StartsIn rows n w → StartsIn rows n w'
   starts-there = starts-kept rows n w w' front
 
-  pub held-there : Held n (met_in n len k w) → Held n (met_in n len k w')
-  held-there = subst (Held n) (sym there)
+  pub held-there : MetOnce n (met_in n len k w) → MetOnce n (met_in n len k w')
+  held-there = subst (MetOnce n) (sym there)
 
   pub visited : (table ps : List ℕ) (l b : ℕ) (w'' : List ℕ) → (met_in n l b w'' ≡ meet_all table ps (met_in n len k w')) × (l ≤ n) × (take n w'' ≡ take n w')
       → (met_in n l b w'' ≡ meet_all table ps (met_in n len k w)) × (l ≤ n) × (take n w'' ≡ take n w)

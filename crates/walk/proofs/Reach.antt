@@ -28,7 +28,7 @@ use Rattle.rules.specs.Ancestors.{Ancestor, parent, further, parents_of, ancesto
 use Rattle.rules.proofs.Ancestry.{ancestor-trans, ancestors-sound, ancestors-complete, family-ascending, in-family}
 use Rattle.rules.proofs.Counting.{total-fits}
 use Rattle.tabled.specs.Image.{Tabled, segment_in}
-use Rattle.walk.specs.Met.{Met, met, meet_all, Single, Held, reached}
+use Rattle.walk.specs.Met.{Met, met, meet_all, Single, MetOnce, reached}
 use Rattle.walk.proofs.ByParents.{parents-none, parents-row, row_at, row_is, words_are}
 use Rattle.walk.proofs.Singles.{both, out, in-snoc, in_map, map-in, single-front, single-map, total-all, total_kept, total-map}
 use Rattle.walk.proofs.Joined.{joined, joined_snoc, length-joined, in-joined, joined_in}
@@ -48,7 +48,7 @@ abbrev pub read_by : List ℕ → List ℕ → ℕ → List ℕ → List ℕ
 read_by rows edges q l = joined (parents_of_row rows edges) (take q l)
 
 pub record Reached (rows edges : List ℕ) (n a q m : ℕ) (s : Met) : Type 0 where
-  pub held : Held n s
+  pub held : MetOnce n s
   pub le : q ≤ length s.list
   pub itself : a ∈ s.list
   pub from : (x : ℕ) → x ∈ s.list → (x ≡ a) ⊎ Ancestor (held_segments rows edges n) (id_of_row rows x) (id_of_row rows a)

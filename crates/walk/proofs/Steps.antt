@@ -23,7 +23,7 @@ use Rattle.words.proofs.PartLaws.{part_length, part_at}
 use Rattle.words.proofs.TableLaws.{length_ids, ids_at, row-found}
 use Rattle.rules.specs.Tables.{held_width}
 use Rattle.tabled.proofs.Kept.{word_kept}
-use Rattle.walk.specs.Met.{Met, met, meet_row, meet, Held, marks_in, list_in, bare_in, met_in, StartsIn}
+use Rattle.walk.specs.Met.{Met, met, meet_row, meet, MetOnce, marks_in, list_in, bare_in, met_in, StartsIn}
 use Rattle.walk.proofs.Meeting.{room}
 
 module _ (w : List ℕ) (a n v : ℕ) where
@@ -121,7 +121,7 @@ module _ (n len k p r : ℕ) (w : List ℕ) (rn : r < n) (big : 3 * n ≤ length
 
 -- ---- p is read: f is where its row was found
 
-module _ (rows : List ℕ) (n len k p : ℕ) (w : List ℕ) (ln : len ≤ n) (big : 3 * n + 3 * k < length w) (h : Held n (met_in n len k w)) (f : Found) (is : f ≡ where_is (ids rows held_width n) p) where
+module _ (rows : List ℕ) (n len k p : ℕ) (w : List ℕ) (ln : len ≤ n) (big : 3 * n + 3 * k < length w) (h : MetOnce n (met_in n len k w)) (f : Found) (is : f ≡ where_is (ids rows held_width n) p) where
   below : (r : ℕ) → f ≡ At r → r < n
   below r e = (row-found rows held_width n p r (sym is ∙ e)).0
 

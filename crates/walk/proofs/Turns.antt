@@ -12,17 +12,17 @@ use Rattle.words.specs.Table.{ids, Ascends}
 use Rattle.rules.specs.Tables.{held_width, stretch, parents_at}
 use Rattle.rules.proofs.Places.{start-room, length-stretch}
 use Rattle.tabled.specs.Image.{Tabled, segment_in}
-use Rattle.walk.specs.Met.{Met, meet, meet_all, Held, met_in, StartsIn}
+use Rattle.walk.specs.Met.{Met, meet, meet_all, MetOnce, met_in, StartsIn}
 use Rattle.walk.proofs.Meeting.{held-meet}
 
 -- of the parents ps the first j were read; w₀ was the work area at first, with `len` rows met and k ids without a row read
 pub record Passing (table ps : List ℕ) (n len k : ℕ) (w₀ : List ℕ) (j l b : ℕ) (w : List ℕ) : Type 0 where
-  pub held : Held n (met_in n l b w)
+  pub held : MetOnce n (met_in n l b w)
   pub room_for : b ≤ k + j
   pub front : take n w ≡ take n w₀
   pub rest : meet_all table ps (met_in n len k w₀) ≡ meet_all table (drop j ps) (met_in n l b w)
 
-pub passing-start : (table ps : List ℕ) (n len k : ℕ) (w : List ℕ) → Held n (met_in n len k w) → Passing table ps n len k w 0 len k w
+pub passing-start : (table ps : List ℕ) (n len k : ℕ) (w : List ℕ) → MetOnce n (met_in n len k w) → Passing table ps n len k w 0 len k w
 passing-start table ps n len k w h = record { held = h; room_for = omega arith; front = refl; rest = refl }
 
 module _ (table ps : List ℕ) (n len k : ℕ) (w₀ : List ℕ) (size : length table ≡ n) (up : Ascends table) (j l b : ℕ) (w : List ℕ) (pass : Passing table ps n len k w₀ j l b w) where

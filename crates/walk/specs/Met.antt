@@ -39,7 +39,7 @@ Single [] = Unit {0}
 Single (x ∷ l) = (x ∉ l) × Single l
 
 -- the rows met are among the n rows, each once, and they are those whose mark is not 0
-pub record Held (n : ℕ) (s : Met) : Type 0 where
+pub record MetOnce (n : ℕ) (s : Met) : Type 0 where
   pub size : length s.mark ≡ n
   pub single : Single s.list
   pub below : (x : ℕ) → x ∈ s.list → x < n

@@ -1,20 +1,14 @@
--- `judge_known` meets its contract: tables that are not bad can be searched, and an id is known where its row is found.
-use Rattle.answers.proofs.Judging.{chain}
-use Rattle.shape.proofs.Good.{held-fit, held-ascend}
-use Rattle.rules.specs.Ordering.{known_rule}
-use Rattle.ordering.proofs.Found.{rule-known, rule-unknown}
-use borrow.Author.Rules.{rules}
+-- `judge_known` meets its contract: an id is known where its row is found.
+use Rattle.std.proofs.Common.{refl, sym, ◌∙◌, arith}
+use Rattle.words.specs.Table.{At, Nothing}
+use Rattle.ordering.proofs.Stretches.{known-bad, known-at, known-nowhere}
 use Rattle.ordering.proofs.judge_known.Goals as goal
 
-pub returns-then-is_bad_held : goal.returns-then-is_bad_held
-unfolding known_rule
-returns-then-is_bad_held c = search chain
-
-pub find_row-found-requires : goal.find_row-found-requires
-find_row-found-requires c = search (rules, held-fit, held-ascend)
+pub returns-in_err-held : goal.returns-in_err-held
+returns-in_err-held c = grind (arith, known-bad c.args.tables.now c.args.id.0 _ c.in_err-held.ensures)
 
 pub returns-in-Some : goal.returns-in-Some
-returns-in-Some c = search rule-known
+returns-in-Some c = known-at c.args.tables.now c.args.id.0 _ c.in_ok-held.ensures (At _) c.in-Some.ensures _ refl
 
 pub returns-in-None : goal.returns-in-None
-returns-in-None c = search rule-unknown
+returns-in-None c = known-nowhere c.args.tables.now c.args.id.0 _ c.in_ok-held.ensures Nothing c.in-None.ensures refl

@@ -1,11 +1,18 @@
 -- `ask_held` meets its contract, by where the row of the segment is found.
+use mathlib.Core.Path.{refl}
+use Rattle.words.specs.Table.{At, Nothing}
 use Rattle.query.proofs.Asking.{asked-start, asked-nothing}
 use Rattle.query.proofs.ask_held.Goals as goal
 
 pub ask_row-requires : goal.ask_row-requires
-ask_row-requires c =
-    let a = asked-start c.args.rows.now c.args.edges.now c.args.h c.requires.tabled c.args.mode c.args.segment.0 c.args.history.now c.args.completed.now c.find_row-found.result c.find_row-found.ensures _ c.in-Some.is in
-    record { tabled = (c.requires.tabled, a.0, a.1); room = c.requires.room }
+ask_row-requires c = record {
+  row =
+      asked-start c.args.held.now.rows.now c.args.held.now.edges.now c.args.held.now.count c.args.held.now.tabled c.args.mode c.args.segment.0
+      c.args.history.now.owned.now c.args.history.now.completed.now (At c.in-Some.row.0) c.in-Some.ensures _ refl;
+  room = c.requires.room;
+}
 
-pub returns-in-None : goal.returns-in-None
-returns-in-None c = asked-nothing c.args.rows.now c.args.edges.now c.args.h c.requires.tabled c.args.mode c.args.segment.0 c.args.history.now c.args.completed.now c.find_row-found.result c.find_row-found.ensures _ c.args.first.now c.args.second.now c.in-None.is c.refused.ensures
+pub returns-in-None-clause-replied : goal.returns-in-None-clause-replied
+returns-in-None-clause-replied c =
+    asked-nothing c.args.held.now.rows.now c.args.held.now.edges.now c.args.held.now.count c.args.held.now.tabled c.args.mode c.args.segment.0
+    c.args.history.now.owned.now c.args.history.now.completed.now Nothing c.in-None.ensures _ _ _ refl c.refused.ensures

@@ -12,7 +12,7 @@ merge-requires c = record {
     omega (arith, c.list_once-bare.ensures.1, c.climb-walked.ensures.fits),
     omega (
       arith,
-      c.requires.2,
+      c.requires.1,
       c.list_reached-met.ensures.1,
       c.list_once-bare.ensures.1,
       c.climb-walked.ensures.fits,
@@ -23,24 +23,24 @@ merge-requires c = record {
     ),
   );
   ascending =
-      merge-asks c.args.rows.now c.args.edges.now c.args.n c.args.row.0 c.requires.0 c.climb-walked.new.w c.climb-walked.result
-      c.climb-walked.ensures (3 * c.args.n + 3 * length c.args.edges.now)
-      (3 * c.args.n + 3 * length c.args.edges.now + length c.args.edges.now) c.list_once-bare.result c.list_reached-met.result
+      merge-asks c.args.held.now.rows.now c.args.held.now.edges.now c.args.held.now.count c.args.row.0 c.args.held.now.tabled c.climb-walked.new.w c.climb-walked.result
+      c.climb-walked.ensures (3 * c.args.held.now.count + 3 * length c.args.held.now.edges.now)
+      (3 * c.args.held.now.count + 3 * length c.args.held.now.edges.now + length c.args.held.now.edges.now) c.list_once-bare.result c.list_reached-met.result
       c.list_once-bare.new.w c.list_reached-met.new.w (omega arith) (omega (arith, c.list_once-bare.ensures.1, c.climb-walked.ensures.fits))
       c.list_once-bare.ensures.0 c.list_once-bare.ensures.2 c.list_reached-met.ensures.0 c.list_reached-met.ensures.2;
 }
 
 pub returns : goal.returns
 returns c =
-    all_listed c.args.rows.now c.args.edges.now c.args.n c.args.row.0 c.requires.0 c.climb-walked.new.w c.climb-walked.result
-    c.climb-walked.ensures (3 * c.args.n + 3 * length c.args.edges.now)
-    (3 * c.args.n + 3 * length c.args.edges.now + length c.args.edges.now) c.list_once-bare.result c.list_reached-met.result
+    all_listed c.args.held.now.rows.now c.args.held.now.edges.now c.args.held.now.count c.args.row.0 c.args.held.now.tabled c.climb-walked.new.w c.climb-walked.result
+    c.climb-walked.ensures (3 * c.args.held.now.count + 3 * length c.args.held.now.edges.now)
+    (3 * c.args.held.now.count + 3 * length c.args.held.now.edges.now + length c.args.held.now.edges.now) c.list_once-bare.result c.list_reached-met.result
     c.list_once-bare.new.w c.list_reached-met.new.w (omega arith) (omega (arith, c.list_once-bare.ensures.1, c.climb-walked.ensures.fits))
     c.list_once-bare.ensures.0 c.list_once-bare.ensures.2 c.list_reached-met.ensures.0 c.list_reached-met.ensures.2
-    (3 * c.args.n + 3 * length c.args.edges.now + length c.args.edges.now + c.args.n) c.merge.new.w (omega arith)
+    (3 * c.args.held.now.count + 3 * length c.args.held.now.edges.now + length c.args.held.now.edges.now + c.args.held.now.count) c.merge.new.w (omega arith)
     (omega (
       arith,
-      c.requires.2,
+      c.requires.1,
       c.list_reached-met.ensures.1,
       c.list_once-bare.ensures.1,
       c.climb-walked.ensures.fits,

@@ -9,10 +9,10 @@ use Rattle.query.proofs.answer.list_pruned.Goals as goal
 
 pub returns-then-is_root : goal.returns-then-is_root
 returns-then-is_root c =
-    let p = put_one c.is_root.result (root_of c.args.rows.now c.args.h c.args.id) c.args.id (keep (root_of c.args.rows.now c.args.h) (part c.args.w.now c.args.b c.args.k)) c.args.first.now c.is_root.ensures c.if-is_root.true (omega (arith, c.requires.k_bound.2)) in
+    let p = put_one c.is_root.result (root_of c.args.held.now.rows.now c.args.held.now.count c.args.id) c.args.id (keep (root_of c.args.held.now.rows.now c.args.held.now.count) (part c.args.w.now c.args.b c.args.k)) c.args.first.now c.is_root.ensures c.if-is_root.true (omega (arith, c.requires.2)) in
     record { first_after = p.0; value = p.1; w_unchanged = refl }
 
 pub returns : goal.returns
 returns c =
-    let p = put_rest c.is_root.result (root_of c.args.rows.now c.args.h c.args.id) c.args.id _ (keep (root_of c.args.rows.now c.args.h) (part c.args.w.now c.args.b c.args.k)) c.args.first.now _ _ c.is_root.ensures c.if-is_root.false (pruned-listed c.args.rows.now c.args.h c.args.b c.args.s c.args.k c.args.w.now _ c.mark_roots.ensures c.requires.k_bound.0 c.requires.k_bound.1) (c.list_marked.ensures.list_after, c.list_marked.ensures.value) in
+    let p = put_rest c.is_root.result (root_of c.args.held.now.rows.now c.args.held.now.count c.args.id) c.args.id _ (keep (root_of c.args.held.now.rows.now c.args.held.now.count) (part c.args.w.now c.args.b c.args.k)) c.args.first.now _ _ c.is_root.ensures c.if-is_root.false (pruned-listed c.args.held.now.rows.now c.args.held.now.count c.args.b c.args.s c.args.k c.args.w.now _ c.mark_roots.ensures c.requires.0 c.requires.1) (c.list_marked.ensures.list_after, c.list_marked.ensures.value) in
     record { first_after = p.0; value = p.1; w_unchanged = c.mark_roots.ensures.front }

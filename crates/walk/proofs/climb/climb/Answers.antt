@@ -8,34 +8,34 @@ use Rattle.walk.proofs.climb.climb.Goals as goal
 pub loop-q-init : goal.loop-q-init
 loop-q-init c =
     let b =
-    climb-start c.args.rows.now c.args.edges.now c.args.n c.requires.tabled.0 c.args.a c.requires.tabled.1 c.args.w.now
-    (omega (arith, c.requires.n_in_bounds.0)) c.requires.n_in_bounds.2 c.requires.n_in_bounds.1 in
-    (omega arith, omega (arith, c.requires.tabled.1), omega arith, refl, simp length-set c.requires.n_in_bounds.0, b.0, b.1)
+    climb-start c.args.held.now.rows.now c.args.held.now.edges.now c.args.held.now.count c.args.held.now.tabled c.args.a c.requires.row c.args.w.now
+    (omega (arith, c.requires.room.0)) c.requires.room.2 c.requires.room.1 in
+    (omega arith, omega (arith, c.requires.row), omega arith, refl, simp length-set c.requires.room.0, b.0, b.1)
 
 pub visit-t-requires : goal.visit-t-requires
 visit-t-requires c =
     let a =
-    climb-asks c.args.rows.now c.args.edges.now c.args.n c.requires.tabled.0 c.args.a c.requires.tabled.1 c.loop-q.q c.loop-q.t.met
+    climb-asks c.args.held.now.rows.now c.args.held.now.edges.now c.args.held.now.count c.args.held.now.tabled c.args.a c.requires.row c.loop-q.q c.loop-q.t.met
     c.loop-q.t.bare c.loop-q.m c.loop-q.w c.loop-q.invariant.1 (omega (arith, c.loop-q.invariant.4)) c.loop-q.invariant.6
     c.loop-q-test.true in
     record {
-      tabled = (c.requires.tabled.0, a.0, c.loop-q.invariant.5);
-      met_le_n = (c.loop-q.invariant.1, a.1, a.2, c.loop-q.invariant.6.held);
-      n_in_bounds = c.loop-q.invariant.4;
+      row = (a.0, c.loop-q.invariant.5);
+      met = (c.loop-q.invariant.1, a.1, a.2, c.loop-q.invariant.6.held);
+      room = c.loop-q.invariant.4;
     }
 
 pub parent_count-m-requires : goal.parent_count-m-requires
 parent_count-m-requires c =
     let a =
-    climb-asks c.args.rows.now c.args.edges.now c.args.n c.requires.tabled.0 c.args.a c.requires.tabled.1 c.loop-q.q c.loop-q.t.met
+    climb-asks c.args.held.now.rows.now c.args.held.now.edges.now c.args.held.now.count c.args.held.now.tabled c.args.a c.requires.row c.loop-q.q c.loop-q.t.met
     c.loop-q.t.bare c.loop-q.m c.loop-q.w c.loop-q.invariant.1 (omega (arith, c.loop-q.invariant.4)) c.loop-q.invariant.6
     c.loop-q-test.true in
-    omega (arith, a.0, c.requires.tabled.0.size)
+    a.0
 
 pub overflow_add-m : goal.overflow_add-m
 overflow_add-m c =
     let a =
-    climb-asks c.args.rows.now c.args.edges.now c.args.n c.requires.tabled.0 c.args.a c.requires.tabled.1 c.loop-q.q c.loop-q.t.met
+    climb-asks c.args.held.now.rows.now c.args.held.now.edges.now c.args.held.now.count c.args.held.now.tabled c.args.a c.requires.row c.loop-q.q c.loop-q.t.met
     c.loop-q.t.bare c.loop-q.m c.loop-q.w c.loop-q.invariant.1 (omega (arith, c.loop-q.invariant.4)) c.loop-q.invariant.6
     c.loop-q-test.true in
     omega (arith, a.2, c.parent_count-m.ensures)
@@ -43,7 +43,7 @@ overflow_add-m c =
 pub loop-q-preserved : goal.loop-q-preserved
 loop-q-preserved c =
     let e =
-    climb-next c.args.rows.now c.args.edges.now c.args.n c.requires.tabled.0 c.args.a c.requires.tabled.1 c.loop-q.q c.loop-q.t.met
+    climb-next c.args.held.now.rows.now c.args.held.now.edges.now c.args.held.now.count c.args.held.now.tabled c.args.a c.requires.row c.loop-q.q c.loop-q.t.met
     c.loop-q.t.bare c.loop-q.m c.loop-q.w c.loop-q.invariant.1 (omega (arith, c.loop-q.invariant.4)) c.loop-q.invariant.6
     c.loop-q-test.true c.visit-t.result.met c.visit-t.result.bare c.parent_count-m.result _ c.visit-t.auto.w c.parent_count-m.ensures
     c.loop-q.invariant.5 c.visit-t.ensures in
@@ -51,6 +51,6 @@ loop-q-preserved c =
 
 pub returns : goal.returns
 returns c =
-    climb-end c.args.rows.now c.args.edges.now c.args.n c.requires.tabled.0 c.args.a c.requires.tabled.1 c.loop-q.q c.loop-q.t.met
+    climb-end c.args.held.now.rows.now c.args.held.now.edges.now c.args.held.now.count c.args.held.now.tabled c.args.a c.requires.row c.loop-q.q c.loop-q.t.met
     c.loop-q.t.bare c.loop-q.m c.loop-q.w c.loop-q.invariant.1 (omega (arith, c.loop-q.invariant.4)) c.loop-q.invariant.6
     c.loop-q-test.false c.loop-q.invariant.2

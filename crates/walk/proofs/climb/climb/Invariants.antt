@@ -9,12 +9,12 @@ use Rattle.walk.proofs.climb.climb.Given as goal
 abbrev pub invariant-loop-q : goal.invariant-loop-q
 invariant-loop-q l =
     (l.q ≤ l.t.met)
-    × (l.t.met ≤ l.n)
-    × (l.m ≤ length l.edges)
+    × (l.t.met ≤ l.held.count)
+    × (l.m ≤ length l.held.edges.now)
     × (length l.w ≡ length l.initial.w)
-    × (32 * (length l.edges + l.n) ≤ length l.w)
-    × StartsIn l.rows l.n l.w
-    × Reached l.rows l.edges l.n l.a l.q l.m (met_in l.n l.t.met l.t.bare l.w)
+    × (32 * (length l.held.edges.now + l.held.count) ≤ length l.w)
+    × StartsIn l.held.rows.now l.held.count l.w
+    × Reached l.held.rows.now l.held.edges.now l.held.count l.a l.q l.m (met_in l.held.count l.t.met l.t.bare l.w)
 
 abbrev pub decreases-loop-q : goal.decreases-loop-q
-decreases-loop-q l = l.n - l.q
+decreases-loop-q l = l.held.count - l.q

@@ -7,8 +7,8 @@ pub overflow_add-b : goal.overflow_add-b
 overflow_add-b c =
     omega (
       arith,
-      (stretch-end c.args.rows.now c.args.edges.now c.args.n c.requires.tabled.0 c.args.r c.requires.tabled.1 c.args.w.now
-          c.requires.tabled.2 c.parent_count-count.result c.parent_count-count.ensures),
+      (stretch-end c.args.held.now.rows.now c.args.held.now.edges.now c.args.held.now.count c.args.held.now.tabled c.args.r c.requires.row.0 c.args.w.now
+          c.requires.row.1 c.parent_count-count.result c.parent_count-count.ensures),
       c.hints_from.ensures,
     )
 
@@ -16,39 +16,38 @@ pub overflow_add-from : goal.overflow_add-from
 overflow_add-from c =
     omega (
       arith,
-      (stretch-end c.args.rows.now c.args.edges.now c.args.n c.requires.tabled.0 c.args.r c.requires.tabled.1 c.args.w.now
-          c.requires.tabled.2 c.parent_count-count.result c.parent_count-count.ensures),
+      (stretch-end c.args.held.now.rows.now c.args.held.now.edges.now c.args.held.now.count c.args.held.now.tabled c.args.r c.requires.row.0 c.args.w.now
+          c.requires.row.1 c.parent_count-count.result c.parent_count-count.ensures),
     )
 
-pub offset_bounds-edges-from : goal.offset_bounds-edges-from
-offset_bounds-edges-from c =
+pub offset_bounds-held-from : goal.offset_bounds-held-from
+offset_bounds-held-from c =
     omega (
       arith,
-      (stretch-end c.args.rows.now c.args.edges.now c.args.n c.requires.tabled.0 c.args.r c.requires.tabled.1 c.args.w.now
-          c.requires.tabled.2 c.parent_count-count.result c.parent_count-count.ensures),
+      (stretch-end c.args.held.now.rows.now c.args.held.now.edges.now c.args.held.now.count c.args.held.now.tabled c.args.r c.requires.row.0 c.args.w.now
+          c.requires.row.1 c.parent_count-count.result c.parent_count-count.ensures),
     )
 
 pub slice_bounds-meet_parents-end : goal.slice_bounds-meet_parents-end
 slice_bounds-meet_parents-end c =
-    stretch-end c.args.rows.now c.args.edges.now c.args.n c.requires.tabled.0 c.args.r c.requires.tabled.1 c.args.w.now c.requires.tabled.2
+    stretch-end c.args.held.now.rows.now c.args.held.now.edges.now c.args.held.now.count c.args.held.now.tabled c.args.r c.requires.row.0 c.args.w.now c.requires.row.1
     c.parent_count-count.result c.parent_count-count.ensures
 
 pub meet_parents-requires : goal.meet_parents-requires
 meet_parents-requires c =
     let size =
-    stretch-size c.args.rows.now c.args.edges.now c.args.n c.requires.tabled.0 c.args.r c.requires.tabled.1 c.args.w.now
-    c.requires.tabled.2 c.parent_count-count.result c.parent_count-count.ensures in
+    stretch-size c.args.held.now.rows.now c.args.held.now.edges.now c.args.held.now.count c.args.held.now.tabled c.args.r c.requires.row.0 c.args.w.now
+    c.requires.row.1 c.parent_count-count.result c.parent_count-count.ensures in
     record {
-      held_width_in_bounds = (omega (arith, c.requires.tabled.0.size), c.requires.tabled.0.up);
-      met_le_n = (c.requires.met_le_n.0, omega (arith, c.requires.met_le_n.1, size), c.requires.met_le_n.2);
-      parents_in_bounds =
+      met = (c.requires.met.0, omega (arith, c.requires.met.1, size), c.requires.met.2);
+      hints =
           omega (
             arith,
             size,
             c.parent_count-count.ensures,
-            (stretch-end c.args.rows.now c.args.edges.now c.args.n c.requires.tabled.0 c.args.r c.requires.tabled.1 c.args.w.now
-                c.requires.tabled.2 c.parent_count-count.result c.parent_count-count.ensures),
+            (stretch-end c.args.held.now.rows.now c.args.held.now.edges.now c.args.held.now.count c.args.held.now.tabled c.args.r c.requires.row.0 c.args.w.now
+                c.requires.row.1 c.parent_count-count.result c.parent_count-count.ensures),
             c.hints_from.ensures,
-            c.requires.n_in_bounds,
+            c.requires.room,
           );
     }

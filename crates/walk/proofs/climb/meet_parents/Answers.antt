@@ -12,13 +12,13 @@ loop-j-preserved c = (
   search rules,
   c.meet_parent-l.ensures.1,
   c.meet_parent-l.auto.w ∙ c.loop-j.invariant.2,
-  passing-next (ids c.args.rows.now held_width c.args.n) c.args.parents.now c.args.n c.args.t.met c.args.t.bare c.args.w.now
-      (length_ids _ _ _) c.requires.held_width_in_bounds.1 c.loop-j.j c.loop-j.l.met c.loop-j.l.bare c.loop-j.w c.loop-j.invariant.3 _ _ _
+  passing-next (ids c.args.held.now.rows.now held_width c.args.held.now.count) c.args.parents.now c.args.held.now.count c.args.t.met c.args.t.bare c.args.w.now
+      (length_ids _ _ _) c.args.held.now.tabled.up c.loop-j.j c.loop-j.l.met c.loop-j.l.bare c.loop-j.w c.loop-j.invariant.3 _ _ _
       c.loop-j-test.true c.meet_parent-l.ensures,
 )
 
 pub returns : goal.returns
 returns c =
-    passing-end (ids c.args.rows.now held_width c.args.n) c.args.parents.now c.args.n c.args.t.met c.args.t.bare c.args.w.now
-    (length_ids _ _ _) c.requires.held_width_in_bounds.1 c.loop-j.j c.loop-j.l.met c.loop-j.l.bare c.loop-j.w c.loop-j.invariant.3
+    passing-end (ids c.args.held.now.rows.now held_width c.args.held.now.count) c.args.parents.now c.args.held.now.count c.args.t.met c.args.t.bare c.args.w.now
+    (length_ids _ _ _) c.args.held.now.tabled.up c.loop-j.j c.loop-j.l.met c.loop-j.l.bare c.loop-j.w c.loop-j.invariant.3
     c.loop-j-test.false c.loop-j.invariant.1

@@ -10,6 +10,6 @@ use Rattle.walk.proofs.climb.meet_parents.Given as goal
 abbrev pub invariant-loop-j : goal.invariant-loop-j
 invariant-loop-j l =
     (l.j ≤ length l.parents)
-    × (l.l.met ≤ l.n)
+    × (l.l.met ≤ l.held.count)
     × (length l.w ≡ length l.initial.w)
-    × Passing (ids l.rows held_width l.n) l.parents l.n l.initial.l.met l.initial.l.bare l.initial.w l.j l.l.met l.l.bare l.w
+    × Passing (ids l.held.rows.now held_width l.held.count) l.parents l.held.count l.initial.l.met l.initial.l.bare l.initial.w l.j l.l.met l.l.bare l.w

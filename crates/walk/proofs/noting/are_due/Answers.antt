@@ -4,4 +4,4 @@ use Rattle.walk.proofs.Noted.{firsts-order}
 use Rattle.walk.proofs.noting.are_due.Goals as goal
 
 pub overflow_sub-rows : goal.overflow_sub-rows
-overflow_sub-rows c = omega (arith, firsts-order c.args.rows.now c.args.n c.requires.1 (omega arith))
+overflow_sub-rows c = omega (arith, firsts-order c.args.held.now.rows.now c.args.held.now.count c.args.held.now.tabled.up (omega arith))

@@ -10,8 +10,8 @@ use Rattle.walk.proofs.reached.list_reached.Given as goal
 
 abbrev pub invariant-loop-i : goal.invariant-loop-i
 invariant-loop-i l =
-    (l.i ≤ l.n)
+    (l.i ≤ l.held.count)
     × (l.k ≤ l.i)
     × (length l.w ≡ length l.initial.w)
     × (take l.b l.w ≡ take l.b l.initial.w)
-    × (part l.w l.b l.k ≡ reached (ids l.rows held_width l.n) (marks_in l.n l.initial.w) l.i)
+    × (part l.w l.b l.k ≡ reached (ids l.held.rows.now held_width l.held.count) (marks_in l.held.count l.initial.w) l.i)
