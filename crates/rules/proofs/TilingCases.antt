@@ -5,35 +5,41 @@ use mathlib.Core.Path.{◌≡◌, refl}
 use mathlib.Core.Bool.{Bool, true, false}
 use mathlib.Core.List.{List, [], ◌∷◌}
 use Rattle.lists.specs.Sort.{Row, le3}
-use Rattle.answers.specs.Answer.{Judged, Accepted, Refused}
+use Rattle.answers.specs.Answer.{Judged, number_of, values_of}
 use Rattle.rules.specs.Tiling.{misfit, walk_end, walk_from, walked, tiles, walked_rule, coverage_rule}
-use Rattle.answers.specs.declared.Refusal.TheVariants.{NoActiveSegments, ActiveCoverageEnd, ActiveCoverageDiscontinuity}
+
+-- an answer by its number and values
+abbrev Answer : Type 0
+Answer = ℕ × List ℕ
+
+abbrev told : Judged → Answer
+told j = (number_of j, values_of j)
 
 record Case : Type 0 where
   active : List Row
-  answer : Judged
+  answer : Answer
 
 abbrev Right : List Case → Type 0
 Right [] = Unit {0}
-Right (c ∷ cs) = (coverage_rule c.active ≡ c.answer) × Right cs
+Right (c ∷ cs) = (told (coverage_rule c.active) ≡ c.answer) × Right cs
 
 abbrev cases : List Case
 cases =
     -- one Active 0..65535
-    record { active = (0, 65535, 1) ∷ []; answer = Accepted }
+    record { active = (0, 65535, 1) ∷ []; answer = (0, []) }
     -- no rows
-    ∷ record { active = []; answer = Refused NoActiveSegments }
+    ∷ record { active = []; answer = (33, []) }
     -- 0..65534 alone
-    ∷ record { active = (0, 65534, 1) ∷ []; answer = Refused (ActiveCoverageEnd 65534 65535) }
+    ∷ record { active = (0, 65534, 1) ∷ []; answer = (35, 65534 ∷ 65535 ∷ []) }
     -- ids 1 and 2 both 0..65535
-    ∷ record { active = (0, 65535, 2) ∷ (0, 65535, 1) ∷ []; answer = Refused (ActiveCoverageDiscontinuity 65535 0 2) }
+    ∷ record { active = (0, 65535, 2) ∷ (0, 65535, 1) ∷ []; answer = (34, 65535 ∷ 0 ∷ 2 ∷ []) }
     -- two that tile, in any order
-    ∷ record { active = (32768, 65535, 3) ∷ (0, 32767, 2) ∷ []; answer = Accepted }
+    ∷ record { active = (32768, 65535, 3) ∷ (0, 32767, 2) ∷ []; answer = (0, []) }
     -- a gap, and an overlap
-    ∷ record { active = (32769, 65535, 3) ∷ (0, 32767, 2) ∷ []; answer = Refused (ActiveCoverageDiscontinuity 32768 32769 3) }
-    ∷ record { active = (32767, 65535, 3) ∷ (0, 32767, 2) ∷ []; answer = Refused (ActiveCoverageDiscontinuity 32768 32767 3) }
+    ∷ record { active = (32769, 65535, 3) ∷ (0, 32767, 2) ∷ []; answer = (34, 32768 ∷ 32769 ∷ 3 ∷ []) }
+    ∷ record { active = (32767, 65535, 3) ∷ (0, 32767, 2) ∷ []; answer = (34, 32768 ∷ 32767 ∷ 3 ∷ []) }
     -- not from 0
-    ∷ record { active = (1, 65535, 3) ∷ []; answer = Refused (ActiveCoverageDiscontinuity 0 1 3) }
+    ∷ record { active = (1, 65535, 3) ∷ []; answer = (34, 0 ∷ 1 ∷ 3 ∷ []) }
     ∷ []
 
 pub coverage-cases : Right cases

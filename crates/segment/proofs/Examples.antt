@@ -4,14 +4,13 @@ use Prim.Native.Nat.{ℕ}
 use mathlib.Core.Path.{◌≡◌, refl}
 use Rattle.std.specs.Prelude.{Some}
 use mathlib.Core.List.{List, [], ◌∷◌}
-use Rattle.answers.specs.Answer.{number_of, values_of, Judged, Refused}
+use Rattle.answers.specs.Answer.{number_of, values_of, Judged}
 use Rattle.types.specs.declared.state.SegmentState.TheVariants.{Active, Sealed}
 use Rattle.types.specs.declared.records.SegmentInfo.{SegmentInfo}
 use Rattle.rules.specs.Tables.{optional}
 use Rattle.rules.specs.Rows as Rows
 use Rattle.types.specs.declared.records.Side.TheVariants.{Parents, Children}
 use Rattle.rules.specs.Descriptor as Rule
-use Rattle.answers.specs.declared.Refusal.TheVariants.{DuplicateParent, SelfEdge, StartOutOfBounds, EmptyLegacyTopic, UnknownState, ActiveWithSealEpoch, SealedWithoutEpoch, InvalidSealEpoch, PlacementMismatch, BadTable}
 
 infix 6 ◌gives◌
 -- an answer by 01's number and values
@@ -26,14 +25,14 @@ described d = (Rule.described_number d, Rule.described_values d)
 
 record Case : Type 0 where
   got : Answer
-  wanted : Judged
+  wanted : Answer
 
-abbrev ◌gives◌ : Answer → Judged → Case
+abbrev ◌gives◌ : Answer → Answer → Case
 got gives wanted = record { got = got; wanted = wanted }
 
 abbrev Right : List Case → Type 0
 Right [] = Unit {0}
-Right (c ∷ cs) = (c.got ≡ judged c.wanted) × Right cs
+Right (c ∷ cs) = (c.got ≡ c.wanted) × Right cs
 
 -- an Active row of all hashes with that seal's flag
 abbrev row : ℕ → ℕ → SegmentInfo
@@ -58,25 +57,25 @@ served id = Some (record { id = record { 0 = id }; url = 1; tls = record { flag 
 abbrev cases : List Case
 cases =
     -- segment 5 with the parents 7, 8, 7
-    (judged (Rows.list_rule Parents 5 (7 ∷ 8 ∷ 7 ∷ [])) gives Refused (DuplicateParent 5 7))
+    (judged (Rows.list_rule Parents 5 (7 ∷ 8 ∷ 7 ∷ [])) gives (20, 5 ∷ 7 ∷ []))
     -- with the parents 7, 5, 7: the self edge comes first
-    ∷ (judged (Rows.list_rule Parents 5 (7 ∷ 5 ∷ 7 ∷ [])) gives Refused (SelfEdge 5))
+    ∷ (judged (Rows.list_rule Parents 5 (7 ∷ 5 ∷ 7 ∷ [])) gives (19, 5 ∷ []))
     -- start 65536, end 65535
-    ∷ (judged (Rows.descriptor_rule 5 65536 65535 1 (optional 0 9)) gives Refused (StartOutOfBounds 5 65536))
+    ∷ (judged (Rows.descriptor_rule 5 65536 65535 1 (optional 0 9)) gives (10, 5 ∷ 65536 ∷ []))
     -- an empty legacy text and a bad range
-    ∷ (judged (Rows.descriptor_rule 5 65536 65535 1 (optional 1 0)) gives Refused (EmptyLegacyTopic 5))
+    ∷ (judged (Rows.descriptor_rule 5 65536 65535 1 (optional 1 0)) gives (9, 5 ∷ []))
     -- an unknown state
-    ∷ (judged (Rows.descriptor_rule 5 0 65535 3 (optional 0 9)) gives Refused (UnknownState 5 3))
+    ∷ (judged (Rows.descriptor_rule 5 0 65535 3 (optional 0 9)) gives (13, 5 ∷ 3 ∷ []))
     -- Active with a seal epoch
-    ∷ (judged (Rows.lifecycle_rule 9 5 Active 1 (optional 1 3) 0) gives Refused (ActiveWithSealEpoch 5 3))
+    ∷ (judged (Rows.lifecycle_rule 9 5 Active 1 (optional 1 3) 0) gives (15, 5 ∷ 3 ∷ []))
     -- Sealed without one
-    ∷ (judged (Rows.lifecycle_rule 9 5 Sealed 1 (optional 0 9) 0) gives Refused (SealedWithoutEpoch 5))
+    ∷ (judged (Rows.lifecycle_rule 9 5 Sealed 1 (optional 0 9) 0) gives (17, 5 ∷ []))
     -- sealed after the layout
-    ∷ (judged (Rows.lifecycle_rule 9 5 Sealed 1 (optional 1 10) 0) gives Refused (InvalidSealEpoch 5 1 10 9))
+    ∷ (judged (Rows.lifecycle_rule 9 5 Sealed 1 (optional 1 10) 0) gives (18, 5 ∷ 1 ∷ 10 ∷ 9 ∷ []))
     -- the placement of another id
-    ∷ (described (Rule.describe (row 5 0) (served 6)) gives Refused (PlacementMismatch 5 6))
+    ∷ (described (Rule.describe (row 5 0) (served 6)) gives (36, 5 ∷ 6 ∷ []))
     -- flag 2, and 1 comes before 36
-    ∷ (described (Rule.describe (row 5 2) (served 6)) gives Refused BadTable)
+    ∷ (described (Rule.describe (row 5 2) (served 6)) gives (1, []))
     ∷ []
 
 pub right : Right cases
