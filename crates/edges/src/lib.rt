@@ -179,7 +179,8 @@ fn judge_row(
     requires rows_in_table { n * held_width ≤ length table.now }
     requires i_lt_n { i < n }
     requires ascends { Ascends (ids table.now held_width n) }
-    requires edges_in_table { at + parents_at table.now (i * held_width) + children_at table.now (i * held_width) ≤ length edges.now }
+    requires edges_in_table { at + parents_at table.now (i * held_width) + children_at table.now (i * held_width)
+        ≤ length edges.now }
     requires children_paired { (length cpairs.now ≡ 3 * kc) × Ordered (rows cpairs.now) }
     requires parents_paired { (length ppairs.now ≡ 3 * kp) × Ordered (rows ppairs.now) }
     ensures { result ≡ row_links table.now edges.now n cpairs.now ppairs.now i at }

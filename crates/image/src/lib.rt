@@ -13,9 +13,10 @@ mod row;
 
 // The held rows, by the index of the segment rows.
 fn write_rows(w: &mut [u64], table: &[u64], n: usize, places: &[u64], m: usize, a: usize, b: usize)
-    requires held_width_bound { n * held_width ≤ a }
+    requires rows_before { n * held_width ≤ a }
     requires ready { Ready w.old table.now n places.now m a b }
-    ensures { w.new ≡ put w.old 0 (n * held_width) (key_rows table.now (placements places.now m) (segment_index table.now n)) }
+    ensures { w.new ≡
+        put w.old 0 (n * held_width) (key_rows table.now (placements places.now m) (segment_index table.now n)) }
 {
     for p in 0..n {
         let r = w[a + p * 3 + 1] as usize;
@@ -32,11 +33,13 @@ fn copy_edges(
     table: &[u64],
     row: usize,
 ) -> usize
-    requires row_width_in_bounds { row + row_width ≤ length table.now }
+    requires rows_in_table { row + row_width ≤ length table.now }
     requires edges_in_table { from + parents_at table.now row + children_at table.now row ≤ length edges.now }
     requires edges_have_room { at + parents_at table.now row + children_at table.now row ≤ length w.old }
     ensures value { result ≡ at + parents_at table.now row + children_at table.now row }
-    ensures w_after { w.new ≡ put w.old at (parents_at table.now row + children_at table.now row) (row_edges table.now edges.now row from) }
+    ensures w_after { w.new ≡
+        put w.old at (parents_at table.now row + children_at table.now row)
+        (row_edges table.now edges.now row from) }
 {
     let parents = table[row + rules::PARENTS] as usize;
     let children = table[row + rules::CHILDREN] as usize;
@@ -47,12 +50,13 @@ fn copy_edges(
 
 // The held edges, behind the n rows, by the same index.
 fn write_edges(w: &mut [u64], table: &[u64], n: usize, edges: &[u64], a: usize)
-    requires row_width_in_bounds { n * row_width ≤ length table.now }
+    requires rows_in_table { n * row_width ≤ length table.now }
     requires counts_match { edges_from row_width table.now n 0 ≡ length edges.now }
-    requires edges_bound { n * held_width + length edges.now ≤ a }
-    requires n_in_bounds { a + 3 * n ≤ length w.old }
+    requires image_before { n * held_width + length edges.now ≤ a }
+    requires index_in_area { a + 3 * n ≤ length w.old }
     requires indexed { Indexed (part w.old a (3 * n)) table.now n }
-    ensures { w.new ≡ put w.old (n * held_width) (length edges.now) (key_edges table.now edges.now (segment_index table.now n)) }
+    ensures { w.new ≡
+        put w.old (n * held_width) (length edges.now) (key_edges table.now edges.now (segment_index table.now n)) }
 {
     let mut at = n * rules::HELD;
     for p in 0..n {
@@ -73,10 +77,13 @@ pub fn write_image(
     a: usize,
     b: usize,
 )
-    requires edges_bound { n * held_width + length edges.now ≤ a }
+    requires image_before { n * held_width + length edges.now ≤ a }
     requires counts_match { edges_from row_width table.now n 0 ≡ length edges.now }
     requires ready { Ready w.old table.now n places.now m a b }
-    ensures { w.new ≡ put w.old 0 (n * held_width + length edges.now) (held_rows (segments table.now edges.now n) (placements places.now m) ++ held_edges (segments table.now edges.now n) (placements places.now m)) }
+    ensures { w.new ≡
+        put w.old 0 (n * held_width + length edges.now)
+        (held_rows (segments table.now edges.now n) (placements places.now m)
+        ++ held_edges (segments table.now edges.now n) (placements places.now m)) }
 {
     write_rows(w, table, n, places, m, a, b);
     write_edges(w, table, n, edges, a);

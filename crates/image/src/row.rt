@@ -20,20 +20,22 @@ fn fix_option(w: &mut [u64], at: usize)
 
 // The words that segment rows and held rows share, of the row that begins at word `from` of the table.
 fn copy_head(w: &mut [u64], at: usize, table: &[u64], from: usize)
-    requires head_width_in_bounds { at + head_width ≤ length w.old }
-    requires head_width_in_bounds_2 { from + head_width ≤ length table.now }
-    ensures { w.new ≡ put w.old at head_width (head_words (head_at table.now from) (parents_at table.now from) (children_at table.now from)) }
+    requires head_fits { at + head_width ≤ length w.old }
+    requires head_in_table { from + head_width ≤ length table.now }
+    ensures { w.new ≡
+        put w.old at head_width
+        (head_words (head_at table.now from) (parents_at table.now from) (children_at table.now from)) }
 {
     let to = from + rules::HEAD;
     words::copy_into(w, at, &table[from..to]);
-    fix_option(w, at + 5);
-    fix_option(w, at + 7);
+    fix_option(w, at + rules::SEALED);
+    fix_option(w, at + rules::LEGACY);
 }
 
 // The site of the placement row that begins at word `from`.
 fn copy_site(w: &mut [u64], at: usize, places: &[u64], from: usize)
-    requires at_in_bounds { at + 4 ≤ length w.old }
-    requires place_width_in_bounds { from + place_width ≤ length places.now }
+    requires site_fits { at + 4 ≤ length w.old }
+    requires places_in_table { from + place_width ≤ length places.now }
     ensures { w.new ≡ put w.old at 4 (site_words (some (placement_at places.now from).site)) }
 {
     let to = from + rules::PLACE;
@@ -53,7 +55,7 @@ fn no_site(w: &mut [u64], at: usize)
 
 // The site of the placement row that was found.
 fn write_site(w: &mut [u64], at: usize, places: &[u64], found: Option<usize>)
-    requires at_in_bounds { at + 4 ≤ length w.old }
+    requires site_fits { at + 4 ≤ length w.old }
     requires inside { Inside places.now found }
     ensures { w.new ≡ put w.old at 4 (site_words (site_found places.now found)) }
 {
@@ -65,7 +67,7 @@ fn write_site(w: &mut [u64], at: usize, places: &[u64], found: Option<usize>)
 
 // The row of the placement with that id, by the index of m placement rows that lies from b on.
 fn find_place(w: &[u64], b: usize, m: usize, id: u64) -> Option<usize>
-    requires m_in_bounds { b + 3 * m ≤ length w.now }
+    requires index_in_area { b + 3 * m ≤ length w.now }
     requires ascends { Ascends (ids (part w.now b (3 * m)) 3 m) }
     ensures { result ≡ place_found (part w.now b (3 * m)) m id }
 {
@@ -87,10 +89,10 @@ pub fn write_row(
     m: usize,
     b: usize,
 )
-    requires held_width_bound { at + held_width ≤ b }
-    requires m_in_bounds { b + 3 * m ≤ length w.old }
-    requires row_width_in_bounds { from + row_width ≤ length table.now }
-    requires place_width_in_bounds { m * place_width ≤ length places.now }
+    requires rows_before { at + held_width ≤ b }
+    requires index_in_area { b + 3 * m ≤ length w.old }
+    requires rows_in_table { from + row_width ≤ length table.now }
+    requires places_in_table { m * place_width ≤ length places.now }
     requires placed { Placed (part w.old b (3 * m)) places.now m }
     ensures { w.new ≡ put w.old at held_width (row_words table.now (placements places.now m) from) }
 {

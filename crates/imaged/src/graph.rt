@@ -14,8 +14,8 @@ use ordered::judging::judge_order;
 #[tactic(auto, unfolding(crate::specs::Judging::ranges_in))]
 fn judge_ranges(w: &mut [u64], n: usize, e: usize, at: usize) -> Result<(), Refusal>
     requires image { Image w.old n e }
-    requires e_bound { behind n e ≤ at }
-    requires e_in_bounds { at + 3 * n + 3 * e ≤ length w.old }
+    requires image_before { behind n e ≤ at }
+    requires ranges_fit { at + 3 * n + 3 * e ≤ length w.old }
     ensures value { result ≡ ranges_in (image_segments w.old n e) }
     ensures w_unchanged { take at w.new ≡ take at w.old }
 {

@@ -21,8 +21,8 @@ fn index_side(
     n: usize,
     edges: &[u64],
 )
-    requires k_in_bounds { from + 3 * k ≤ length w.old }
-    requires row_width_in_bounds { n * row_width ≤ length rows.now }
+    requires pairs_fit { from + 3 * k ≤ length w.old }
+    requires rows_in_table { n * row_width ≤ length rows.now }
     requires counts_match { edges_from row_width rows.now n 0 ≡ length edges.now }
     requires pairs_counted { sides_from side row_width rows.now n 0 ≡ k }
     ensures { Indexed side rows.now edges.now n w.old w.new from k }

@@ -122,7 +122,9 @@ fn judge_counted(
 ) -> Result<(), Refusal>
     requires head_width_in_bounds { w + head_width ≤ length rows.now }
     requires edges_in_table { at + parents_at rows.now w + children_at rows.now w ≤ length edges.now }
-    ensures { result ≡ row_rule layout (segment_at rows.now edges.now w at) then edge_count_rule limit (max parents children) }
+    ensures { result ≡
+        row_rule layout (segment_at rows.now edges.now w at) then
+        edge_count_rule limit (max parents children) }
 {
     judge_row(layout, rows, w, edges, at)?;
     judge_edge_count(limit, parents, children)

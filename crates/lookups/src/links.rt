@@ -30,9 +30,11 @@ fn push_row(
 ) -> usize
     requires head_width_in_bounds { w + head_width ≤ length table.now }
     requires edges_in_table { at + parents_at table.now w + children_at table.now w ≤ length edges.now }
-    requires at_in_bounds { 3 * (k + length (side_of side (segment_at table.now edges.now w at))) ≤ length pairs.old }
+    requires pairs_fit { 3 * (k + length (side_of side (segment_at table.now edges.now w at))) ≤ length pairs.old }
     ensures value { result ≡ k + length (side_of side (segment_at table.now edges.now w at)) }
-    ensures pairs_after { take result (rows pairs.new) ≡ take k (rows pairs.old) ++ map (pair_of (get_or table.now w 0)) (side_of side (segment_at table.now edges.now w at)) }
+    ensures pairs_after { take result (rows pairs.new) ≡
+        take k (rows pairs.old)
+        ++ map (pair_of (get_or table.now w 0)) (side_of side (segment_at table.now edges.now w at)) }
 {
     let id = table[w];
     let middle = at + table[w + rules::PARENTS] as usize;

@@ -18,8 +18,9 @@ fn is_before(pairs: &[u64], r: usize, x: u64, y: u64) -> bool
 fn pairs_before(pairs: &[u64], k: usize, x: u64, y: u64) -> usize
     requires pairs_len { length pairs.now ≡ 3 * k }
     requires ordered { Ordered (rows pairs.now) }
-    ensures upper_bound { result ≤ k }
-    ensures pairs_value { has_pair x y (rows pairs.now) ≡ (ltb result k && (eqb (at (rows pairs.now) result).0 x && eqb (at (rows pairs.now) result).1 y)) }
+    ensures within { result ≤ k }
+    ensures pair_there { has_pair x y (rows pairs.now) ≡
+        (ltb result k && (eqb (at (rows pairs.now) result).0 x && eqb (at (rows pairs.now) result).1 y)) }
 {
     let mut lo = 0;
     let mut hi = k;

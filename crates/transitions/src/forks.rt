@@ -24,7 +24,7 @@ fn parent_count(w: &[u64], n: usize, e: usize, id: u64) -> usize
 #[tactic(auto, using(crate::proofs::Forked::single_other, crate::proofs::Forked::single_next, crate::proofs::Forked::single_end))]
 fn all_single(w: &[u64], n: usize, e: usize, from: usize, count: usize) -> bool
     requires image { Image w.now n e }
-    requires count_in_bounds { from + count ≤ length w.now }
+    requires ids_in_area { from + count ≤ length w.now }
     ensures { result ≡ all_single (image_segments w.now n e) (part w.now from count) }
 {
     for i in 0..count {
@@ -39,7 +39,7 @@ fn all_single(w: &[u64], n: usize, e: usize, from: usize, count: usize) -> bool
 #[tactic(auto, using(crate::proofs::Forked::merged_other, crate::proofs::Forked::merged_one))]
 fn one_merged(w: &[u64], n: usize, e: usize, from: usize, count: usize) -> bool
     requires image { Image w.now n e }
-    requires count_in_bounds { from + count ≤ length w.now }
+    requires ids_in_area { from + count ≤ length w.now }
     ensures { result ≡ one_merged (image_segments w.now n e) (part w.now from count) }
 {
     count == 1 && 1 < parent_count(w, n, e, w[from])
@@ -56,7 +56,7 @@ fn judge_split(
     at: usize,
 ) -> Result<(), Refusal>
     requires listed { Listed w.old n e i from count at }
-    requires count_value { part w.old from count ≡ (segment_of w.old n e i).children }
+    requires children_listed { part w.old from count ≡ (segment_of w.old n e i).children }
     ensures value { result ≡ split_rule (image_segments w.old n e) (segment_of w.old n e i) }
     ensures w_unchanged { take at w.new ≡ take at w.old }
 {

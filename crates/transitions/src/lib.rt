@@ -22,9 +22,11 @@ pub mod tile;
 // 30 and 31 over all rows, then 32.
 pub fn judge_transitions(w: &mut [u64], n: usize, e: usize, at: usize) -> Result<(), Refusal>
     requires image { Image w.old n e }
-    requires e_bound { n * held_width + e ≤ at }
-    requires e_in_bounds { at + 3 * e ≤ length w.old }
-    ensures value { result ≡ (forks_from (image_segments w.old n e) (image_segments w.old n e) then joins_from (image_segments w.old n e) (image_segments w.old n e)) }
+    requires image_before { n * held_width + e ≤ at }
+    requires ranges_fit { at + 3 * e ≤ length w.old }
+    ensures value { result ≡
+        (forks_from (image_segments w.old n e) (image_segments w.old n e) then
+        joins_from (image_segments w.old n e) (image_segments w.old n e)) }
     ensures w_unchanged { take at w.new ≡ take at w.old }
 {
     judge_rows(Side::Children, w, n, e, at)?;
@@ -34,8 +36,8 @@ pub fn judge_transitions(w: &mut [u64], n: usize, e: usize, at: usize) -> Result
 // 33 to 35 over the Active segments.
 pub fn judge_active(w: &mut [u64], n: usize, e: usize, at: usize) -> Result<(), Refusal>
     requires image { Image w.old n e }
-    requires e_bound { n * held_width + e ≤ at }
-    requires n_in_bounds { at + 3 * n ≤ length w.old }
+    requires image_before { n * held_width + e ≤ at }
+    requires ranges_fit { at + 3 * n ≤ length w.old }
     ensures value { result ≡ coverage_rule (active_of (image_segments w.old n e)) }
     ensures w_unchanged { take at w.new ≡ take at w.old }
 {

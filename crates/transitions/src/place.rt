@@ -10,8 +10,8 @@ ghost use Rattle.transitions.specs.Edged.{segment_of};
 
 // The range of row i behind the k ranges.
 fn place_row(w: &mut [u64], at: usize, k: usize, i: usize)
-    requires held_width_in_bounds { i * held_width + held_width ≤ length w.old }
-    requires k_in_bounds { at + 3 * k + 3 ≤ length w.old }
+    requires row_in_area { i * held_width + held_width ≤ length w.old }
+    requires range_fits { at + 3 * k + 3 ≤ length w.old }
     ensures { Grown w.old w.new at k (k + 1) (range_at w.old i ∷ []) }
 {
     let t = i * rules::HELD;
@@ -25,7 +25,7 @@ fn place_row(w: &mut [u64], at: usize, k: usize, i: usize)
 // The range of the segment with that id, if there is one, behind the k ranges; how many they are then.
 fn place_id(w: &mut [u64], n: usize, e: usize, at: usize, k: usize, id: u64) -> usize
     requires image { Image w.old n e }
-    requires k_in_bounds { at + 3 * k + 3 ≤ length w.old }
+    requires range_fits { at + 3 * k + 3 ≤ length w.old }
     ensures { Grown w.old w.new at k result (range_found (lookup id (image_segments w.old n e))) }
 {
     match words::find_row(w, rules::HELD, n, id) {
@@ -47,11 +47,11 @@ pub fn place_listed(
     at: usize,
 ) -> usize
     requires image { Image w.old n e }
-    requires e_bound { n * held_width + e ≤ at }
-    requires count_bound { from + count ≤ at }
-    requires count_in_bounds { at + 3 * count ≤ length w.old }
-    ensures upper_bound { result ≤ count }
-    ensures result_after { ranges w.new at result ≡ ranges_of (image_segments w.old n e) (part w.old from count) }
+    requires image_before { n * held_width + e ≤ at }
+    requires ids_before { from + count ≤ at }
+    requires ranges_fit { at + 3 * count ≤ length w.old }
+    ensures few { result ≤ count }
+    ensures placed { ranges w.new at result ≡ ranges_of (image_segments w.old n e) (part w.old from count) }
     ensures w_unchanged { take at w.new ≡ take at w.old }
 {
     let mut k = 0;
@@ -66,7 +66,7 @@ pub fn place_listed(
 fn place_one(w: &mut [u64], n: usize, e: usize, at: usize, k: usize, i: usize) -> usize
     requires image { Image w.old n e }
     requires i_lt_n { i < n }
-    requires k_in_bounds { at + 3 * k + 3 ≤ length w.old }
+    requires range_fits { at + 3 * k + 3 ≤ length w.old }
     ensures { Grown w.old w.new at k result (active_one (segment_of w.old n e i)) }
 {
     if w[i * rules::HELD + rules::STATE] != 1 {
@@ -79,10 +79,10 @@ fn place_one(w: &mut [u64], n: usize, e: usize, at: usize, k: usize, i: usize) -
 // The ranges of the Active segments; how many they are.
 pub fn place_active(w: &mut [u64], n: usize, e: usize, at: usize) -> usize
     requires image { Image w.old n e }
-    requires e_bound { n * held_width + e ≤ at }
-    requires n_in_bounds { at + 3 * n ≤ length w.old }
-    ensures upper_bound { result ≤ n }
-    ensures result_after { ranges w.new at result ≡ active_of (image_segments w.old n e) }
+    requires image_before { n * held_width + e ≤ at }
+    requires ranges_fit { at + 3 * n ≤ length w.old }
+    ensures few { result ≤ n }
+    ensures placed { ranges w.new at result ≡ active_of (image_segments w.old n e) }
     ensures w_unchanged { take at w.new ≡ take at w.old }
 {
     let mut k = 0;

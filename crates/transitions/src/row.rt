@@ -18,7 +18,7 @@ pub fn children(w: &[u64], i: usize) -> usize
 
 // Where they end that begin at word `start`.
 pub fn edges_end(w: &[u64], i: usize, start: usize) -> usize
-    requires held_width_in_bounds { i * held_width + held_width ≤ length w.now }
+    requires row_in_area { i * held_width + held_width ≤ length w.now }
     requires edges_in_area { start + parents_at w.now (i * held_width) + children_at w.now (i * held_width) ≤ length w.now }
     ensures { result ≡ start + parents_at w.now (i * held_width) + children_at w.now (i * held_width) }
 {

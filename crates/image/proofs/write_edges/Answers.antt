@@ -12,7 +12,7 @@ pub overflow_mul-r-in-loop-p : goal.overflow_mul-r-in-loop-p
 overflow_mul-r-in-loop-p c = search key_fits
 
 pub copy_edges-at-requires : goal.copy_edges-at-requires
-copy_edges-at-requires c = record { row_width_in_bounds = search key-room; edges_in_table = search from-room; edges_have_room = search edge-room }
+copy_edges-at-requires c = record { rows_in_table = search key-room; edges_in_table = search from-room; edges_have_room = search edge-room }
 
 pub loop-p-preserved : goal.loop-p-preserved
 loop-p-preserved c = (search rules, search rules, search edges-kept, search count_next, search edges-next)

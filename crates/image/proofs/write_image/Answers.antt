@@ -4,7 +4,7 @@ use borrow.Author.Rules.{rules}
 use Rattle.image.proofs.write_image.Goals as goal
 
 pub write_edges-requires : goal.write_edges-requires
-write_edges-requires c = record { row_width_in_bounds = search rules; counts_match = search rules; edges_bound = search rules; n_in_bounds = search rules; indexed = search rows-kept }
+write_edges-requires c = record { rows_in_table = search rules; counts_match = search rules; image_before = search rules; index_in_area = search rules; indexed = search rows-kept }
 
 pub returns : goal.returns
 returns c = search image-written

@@ -8,7 +8,7 @@ pub overflow_mul-r-in-loop-p : goal.overflow_mul-r-in-loop-p
 overflow_mul-r-in-loop-p c = search key_fits
 
 pub write_row-requires : goal.write_row-requires
-write_row-requires c = record { held_width_bound = search rules; m_in_bounds = search rules; row_width_in_bounds = search key-room; place_width_in_bounds = search rules; placed = search rules }
+write_row-requires c = record { rows_before = search rules; index_in_area = search rules; rows_in_table = search key-room; places_in_table = search rules; placed = search rules }
 
 pub loop-p-preserved : goal.loop-p-preserved
 loop-p-preserved c = (search rules, search rules, search rows_next, search row_kept)

@@ -12,4 +12,4 @@ pub shape_of-w : goal.shape_of-w
 shape_of-w c = omega (arith, simp length-set at c.fix_option.auto.w)
 
 pub returns : goal.returns
-returns c = site-copied c.args.w.now c.args.places.now c.args.at c.args.from c.requires.at_in_bounds c.requires.place_width_in_bounds c.copy_into.new.dst _ c.fix_option.new.w c.copy_into.ensures refl c.fix_option.ensures
+returns c = site-copied c.args.w.now c.args.places.now c.args.at c.args.from c.requires.site_fits c.requires.places_in_table c.copy_into.new.dst _ c.fix_option.new.w c.copy_into.ensures refl c.fix_option.ensures

@@ -4,7 +4,7 @@ use borrow.Author.Rules.{rules}
 use Rattle.image.proofs.row.write_row.Goals as goal
 
 pub write_site-requires : goal.write_site-requires
-write_site-requires c = record { at_in_bounds = search rules; inside = search inside }
+write_site-requires c = record { site_fits = search rules; inside = search inside }
 
 pub returns : goal.returns
 returns c = search row_done

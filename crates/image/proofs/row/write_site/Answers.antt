@@ -7,7 +7,7 @@ pub overflow_mul-k : goal.overflow_mul-k
 overflow_mul-k c = search k-fits
 
 pub copy_site-requires : goal.copy_site-requires
-copy_site-requires c = record { at_in_bounds = search rules; place_width_in_bounds = search k-room }
+copy_site-requires c = record { site_fits = search rules; places_in_table = search k-room }
 
 pub returns-in-Some : goal.returns-in-Some
 returns-in-Some c = search put-found

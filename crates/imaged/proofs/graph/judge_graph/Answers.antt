@@ -5,7 +5,7 @@ use borrow.Author.Rules.{rules}
 use Rattle.imaged.proofs.graph.judge_graph.Goals as goal
 
 pub judge_ranges-requires : goal.judge_ranges-requires
-judge_ranges-requires c = record { image = search image-kept; e_bound = search rules; e_in_bounds = search rules }
+judge_ranges-requires c = record { image = search image-kept; image_before = search rules; ranges_fit = search rules }
 
 pub returns : goal.returns
 returns c = record { value = search (graph-both, c.in_ok-judge_order.was); w_unchanged = search behind-order; n_after = λ accepted. search (order-stays, c.in_ok-judge_order.was) }

@@ -6,7 +6,7 @@ use borrow.Author.Rules.{rules}
 use Rattle.imaged.proofs.graph.judge_ranges.Goals as goal
 
 pub judge_active-requires : goal.judge_active-requires
-judge_active-requires c = record { image = search image-kept; e_bound = search rules; n_in_bounds = search rules }
+judge_active-requires c = record { image = search image-kept; image_before = search rules; ranges_fit = search rules }
 
 pub returns : goal.returns
 returns c = record { value = search (ranges-both, c.in_ok-judge_transitions.was); w_unchanged = search kept-twice }

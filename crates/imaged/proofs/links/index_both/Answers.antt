@@ -17,7 +17,7 @@ pub overflow_sub-e : goal.overflow_sub-e
 overflow_sub-e c = search (rules, pairs-few)
 
 pub index_side-requires-2 : goal.index_side-requires-2
-index_side-requires-2 c = record { k_in_bounds = search pairs-fit-both; row_width_in_bounds = search rules; counts_match = search rules; pairs_counted = search pairs-rest }
+index_side-requires-2 c = record { pairs_fit = search pairs-fit-both; rows_in_table = search rules; counts_match = search rules; pairs_counted = search pairs-rest }
 
 pub returns : goal.returns
 returns c = record { paired = search paired; w_unchanged = search paired-kept }

@@ -10,7 +10,7 @@ pub loop-i-init : goal.loop-i-init
 loop-i-init c = (search rules, search fill_start)
 
 pub push_row-k-requires : goal.push_row-k-requires
-push_row-k-requires c = record { head_width_in_bounds = search row_in; edges_in_table = search row_room; at_in_bounds = search pairs-room }
+push_row-k-requires c = record { head_width_in_bounds = search row_in; edges_in_table = search row_room; pairs_fit = search pairs-room }
 
 pub loop-i-preserved : goal.loop-i-preserved
 loop-i-preserved c = (search rules, search fill-next)

@@ -24,4 +24,4 @@ loop-lo-preserved c =
     (c.loop-lo.lo + (c.loop-lo.hi - c.loop-lo.lo) / 2) (omega arith) (omega arith) c.is_before.result c.is_before.ensures c.if-is_before.false
 
 pub returns : goal.returns
-returns c = record { upper_bound = search rules; pairs_value = search (between-end, rows-length) }
+returns c = record { within = search rules; pair_there = search (between-end, rows-length) }

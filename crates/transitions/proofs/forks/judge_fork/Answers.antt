@@ -11,7 +11,7 @@ pub returns-then-count-eq0 : goal.returns-then-count-eq0
 returns-then-count-eq0 c = record { value = search fork-none; w_unchanged = search rules }
 
 pub judge_split-requires : goal.judge_split-requires
-judge_split-requires c = record { listed = search children-listed; count_value = search children-same }
+judge_split-requires c = record { listed = search children-listed; children_listed = search children-same }
 
 pub returns : goal.returns
 returns c = record { value = search fork-some; w_unchanged = search rules }

@@ -5,7 +5,7 @@ use native.Mathlib.Omega.{arith}
 use Rattle.transitions.proofs.passes.judge_rows.Goals as goal
 
 pub edges_end-end-requires : goal.edges_end-end-requires
-edges_end-end-requires c = record { held_width_in_bounds = search passed-row; edges_in_area = search passed-room }
+edges_end-end-requires c = record { row_in_area = search passed-row; edges_in_area = search passed-room }
 
 pub judge_row-requires : goal.judge_row-requires
 judge_row-requires c = search passed-edged

@@ -4,10 +4,10 @@ use borrow.Author.Rules.{rules}
 use Rattle.transitions.proofs.place.place_active.Goals as goal
 
 pub place_one-k-requires : goal.place_one-k-requires
-place_one-k-requires c = record { image = search active-image; i_lt_n = search rules; k_in_bounds = search rules }
+place_one-k-requires c = record { image = search active-image; i_lt_n = search rules; range_fits = search rules }
 
 pub loop-i-preserved : goal.loop-i-preserved
 loop-i-preserved c = (search rules, search active-next)
 
 pub returns : goal.returns
-returns c = record { upper_bound = search rules; result_after = search active-end; w_unchanged = search rules }
+returns c = record { few = search rules; placed = search active-end; w_unchanged = search rules }

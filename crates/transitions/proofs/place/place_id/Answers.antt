@@ -8,7 +8,7 @@ pub find_row-requires : goal.find_row-requires
 find_row-requires c = record { width_nonzero = search rules; width_in_bounds = search rules; ascends = search image-up }
 
 pub place_row-requires : goal.place_row-requires
-place_row-requires c = record { held_width_in_bounds = search found-room; k_in_bounds = search rules }
+place_row-requires c = record { row_in_area = search found-room; range_fits = search rules }
 
 pub returns-in-Some : goal.returns-in-Some
 returns-in-Some c = search grown-some

@@ -4,10 +4,10 @@ use borrow.Author.Rules.{rules}
 use Rattle.transitions.proofs.place.place_listed.Goals as goal
 
 pub place_id-k-requires : goal.place_id-k-requires
-place_id-k-requires c = record { image = search listed-image; k_in_bounds = search rules }
+place_id-k-requires c = record { image = search listed-image; range_fits = search rules }
 
 pub loop-i-preserved : goal.loop-i-preserved
 loop-i-preserved c = (search rules, search listed_next)
 
 pub returns : goal.returns
-returns c = record { upper_bound = search rules; result_after = search listed-end; w_unchanged = search rules }
+returns c = record { few = search rules; placed = search listed-end; w_unchanged = search rules }
