@@ -55,6 +55,7 @@ fn halve(rows: &[u64], width: usize, from: usize, to: usize, id: u64) -> usize
 {
     let mut lo = from;
     let mut hi = to;
+    // a search by halving: no range or list to walk
     while lo < hi {
         let mid = lo + (hi - lo) / 2;
         if rows[mid * width] < id {
@@ -81,6 +82,7 @@ pub fn next_hint(rows: &[u64], width: usize, count: usize, id: u64, at: usize) -
 {
     let mut lo = at;
     let mut hi = at;
+    // strides that double: no range or list to walk
     while hi < count {
         if id <= rows[hi * width] {
             return halve(rows, width, lo, hi, id);

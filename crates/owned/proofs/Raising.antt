@@ -142,8 +142,8 @@ cleared b s k w ys h l e =
     zero-at m p q = get_or-replicate m p 0 0 q
 
 -- what the next pass asks, once the marks were changed and nothing before them
-pub again-asks : (b s k : ℕ) (w w' : List ℕ) → b + k ≤ s → s + k ≤ length w → Ascends (part w b k) → take s w' ≡ take s w → length w' ≡ length w → (b + k ≤ s) × (s + k ≤ length w') × Ascends (part w' b k)
-again-asks b s k w w' h l u e z = (h, omega arith, rw (part-kept w' w s e b k h) u)
+pub again-asks : (b s k : ℕ) (w w' : List ℕ) → b + k ≤ s → s + k ≤ length w → Ascends (part w b k) → take s w' ≡ take s w → length w' ≡ length w → (s + k ≤ length w') × Ascends (part w' b k)
+again-asks b s k w w' h l u e z = (omega arith, rw (part-kept w' w s e b k h) u)
 
 pub cleared-length : (s k : ℕ) (w ys : List ℕ) → s + k ≤ length w → length ys ≡ length (part w s (s + k - s)) → length (put w s (s + k - s) ys) ≡ length w
 cleared-length s k w ys h l = (loan w s (s + k) k ys refl h l).len

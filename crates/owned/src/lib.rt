@@ -2,6 +2,17 @@
 // by their marks.
 #![tactic(auto)]
 
+ghost use Rattle.std.specs.Prelude.{◌+◌, ◌≤◌};
+
 pub mod by_mark;
 pub mod marks;
 pub mod roots;
+
+// Where ids and their marks stand in the work area: `count` ids from word `from` on, and a mark for each from word `marks` on, behind them.
+#[derive(Clone, Copy)]
+pub struct MarkedIds {
+    pub from: usize,
+    pub count: usize,
+    pub marks: usize,
+    ghost behind: { from + count ≤ marks },
+}

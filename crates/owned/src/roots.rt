@@ -3,6 +3,7 @@ ghost use Rattle.std.specs.Prelude.{◌≡◌, ℕ, ◌+◌, ◌<◌, ◌≤◌,
 ghost use Rattle.lists.specs.Lists.{tick};
 ghost use Rattle.owned.specs.Marks.{Marked, root_row, root_of};
 
+use crate::MarkedIds;
 use held::Held;
 use types::records::RowIndex;
 
@@ -34,15 +35,15 @@ fn root_mark(held: &Held, x: u64, at: usize) -> u64
     0
 }
 
-// A mark for each of the k ids from word b on, from word s on. The ids ascend as the rows do, so both are passed once.
-pub fn mark_roots(held: &Held, w: &mut [u64], b: usize, k: usize, s: usize)
-    requires { (b + k ≤ s) × (s + k ≤ length w.old) }
-    ensures { Marked (λ (x : ℕ). tick (root_of held.now.rows.now held.now.count x)) b s k w.old w.new }
+// A mark for each of the ids. They ascend as the rows do, so both are passed once.
+pub fn mark_roots(held: &Held, w: &mut [u64], ids: MarkedIds)
+    requires { ids.marks + ids.count ≤ length w.old }
+    ensures { Marked (λ (x : ℕ). tick (root_of held.now.rows.now held.now.count x)) ids.from ids.marks ids.count w.old w.new }
 {
     let mut at = 0;
-    for i in 0..k {
-        let x = w[b + i];
+    for i in 0..ids.count {
+        let x = w[ids.from + i];
         at = hints::near::next_hint(held.rows, rules::HELD, held.count, x, at);
-        w[s + i] = root_mark(held, x, at);
+        w[ids.marks + i] = root_mark(held, x, at);
     }
 }

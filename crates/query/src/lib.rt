@@ -11,6 +11,7 @@ ghost use Rattle.query.specs.Told.{Replied, HasRoom};
 
 use answers::{Ordering, Refusal};
 use held::Held;
+use owned::MarkedIds;
 use types::lent::{History, Lists};
 use types::records::{OrderingMode, RowIndex, SegmentId};
 
@@ -32,11 +33,15 @@ fn ask_row(
     ensures replied { Replied (ordering (segments_of held.now) mode id history.now.owned.now history.now.completed.now) result
         lists.old.first.now lists.new.first.now lists.old.second.now lists.new.second.now }
 {
-    let h = held.count;
     let g = held.edges.len();
-    let b = 4 * h + 4 * g;
+    let from = 4 * held.count + 4 * g;
     let all = walk::ancestors_of(held, row, work);
-    let eligibility = answer::answer_row(held, mode, id, history, work, b, all.count, b + g, lists);
+    let ids = MarkedIds {
+        from,
+        count: all.count,
+        marks: from + g,
+    };
+    let eligibility = answer::answer_row(held, mode, id, history, work, ids, lists);
     Ordering {
         eligibility: Ok(eligibility),
         read: all.read as u64,

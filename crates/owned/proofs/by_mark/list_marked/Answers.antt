@@ -11,6 +11,6 @@ loop-i-init c = (search rules, search rules, search rules, written_start _ _ _ _
 pub loop-i-preserved : goal.loop-i-preserved
 loop-i-preserved c =
     let e =
-    written_next c.args.w.now c.args.b c.args.s c.args.mark c.loop-i.i c.loop-i.len c.loop-i.list c.args.list.now _ _
+    written_next c.args.w.now c.args.ids.from c.args.ids.marks c.args.mark c.loop-i.i c.loop-i.len c.loop-i.list c.args.list.now _ _
     c.loop-i.invariant.3 (omega arith) c.list_one-len.ensures.list_after c.list_one-len.ensures.value in
     (search rules, omega (arith, e.1), c.list_one-len.auto.list ∙ c.loop-i.invariant.2, e.0)

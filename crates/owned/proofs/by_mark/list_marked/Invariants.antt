@@ -8,4 +8,4 @@ use Rattle.owned.proofs.by_mark.list_marked.Given as goal
 
 abbrev pub invariant-loop-i : goal.invariant-loop-i
 invariant-loop-i l =
-    (l.i ≤ l.k) × (l.len ≤ l.i) × (length l.list ≡ length l.initial.list) × Written (with_mark l.w l.b l.s l.mark l.i) l.len l.list l.initial.list
+    (l.i ≤ l.ids.count) × (l.len ≤ l.i) × (length l.list ≡ length l.initial.list) × Written (with_mark l.w l.ids.from l.ids.marks l.mark l.i) l.len l.list l.initial.list

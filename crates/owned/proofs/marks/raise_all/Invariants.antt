@@ -11,5 +11,5 @@ abbrev pub invariant-loop-x : goal.invariant-loop-x
 invariant-loop-x l =
     (l.x-index ≤ length l.list)
     × (length l.w ≡ length l.initial.w)
-    × Ascends (part l.w l.b l.k)
-    × Raised (take l.x-index l.list) l.from l.to l.b l.s l.k l.initial.w l.w
+    × Ascends (part l.w l.ids.from l.ids.count)
+    × Raised (take l.x-index l.list) l.from l.to l.ids.from l.ids.marks l.ids.count l.initial.w l.w

@@ -5,19 +5,19 @@ use Rattle.owned.proofs.marks.raise_one.Goals as goal
 
 pub find_row-found-requires : goal.find_row-found-requires
 find_row-found-requires c =
-    let e = one-asks c.args.b c.args.s c.args.k c.args.w.now c.requires.0 c.requires.1 c.requires.2 in
+    let e = one-asks c.args.ids.from c.args.ids.marks c.args.ids.count c.args.w.now c.args.ids.behind c.requires.0 c.requires.1 in
     record { width_nonzero = e.0; width_in_bounds = e.1.0; ascends = e.1.1 }
 
-pub overflow_add-s : goal.overflow_add-s
-overflow_add-s c = omega (arith, hit-room c.args.x c.args.from c.args.to c.args.b c.args.s c.args.k c.args.w.now c.requires.0 c.requires.1 c.requires.2 c.find_row-found.result c.find_row-found.ensures _ c.in-Some.is)
+pub overflow_add-ids-in-Some : goal.overflow_add-ids-in-Some
+overflow_add-ids-in-Some c = omega (arith, hit-room c.args.x c.args.from c.args.to c.args.ids.from c.args.ids.marks c.args.ids.count c.args.w.now c.args.ids.behind c.requires.0 c.requires.1 c.find_row-found.result c.find_row-found.ensures _ c.in-Some.is)
 
 pub raise_word-requires : goal.raise_word-requires
-raise_word-requires c = hit-room c.args.x c.args.from c.args.to c.args.b c.args.s c.args.k c.args.w.now c.requires.0 c.requires.1 c.requires.2 c.find_row-found.result c.find_row-found.ensures _ c.in-Some.is
+raise_word-requires c = hit-room c.args.x c.args.from c.args.to c.args.ids.from c.args.ids.marks c.args.ids.count c.args.w.now c.args.ids.behind c.requires.0 c.requires.1 c.find_row-found.result c.find_row-found.ensures _ c.in-Some.is
 
 pub returns-in-Some : goal.returns-in-Some
-returns-in-Some c = one_hit c.args.x c.args.from c.args.to c.args.b c.args.s c.args.k c.args.w.now c.requires.0 c.requires.1 c.requires.2 c.find_row-found.result c.find_row-found.ensures _ c.in-Some.is _ c.raise_word.ensures
+returns-in-Some c = one_hit c.args.x c.args.from c.args.to c.args.ids.from c.args.ids.marks c.args.ids.count c.args.w.now c.args.ids.behind c.requires.0 c.requires.1 c.find_row-found.result c.find_row-found.ensures _ c.in-Some.is _ c.raise_word.ensures
 
 pub returns-in_default : goal.returns-in_default
 returns-in_default c =
-    one-miss c.args.x c.args.from c.args.to c.args.b c.args.s c.args.k c.args.w.now c.requires.0 c.requires.1 c.requires.2
+    one-miss c.args.x c.args.from c.args.to c.args.ids.from c.args.ids.marks c.args.ids.count c.args.w.now c.args.ids.behind c.requires.0 c.requires.1
     c.find_row-found.result c.find_row-found.ensures c.in_default.is

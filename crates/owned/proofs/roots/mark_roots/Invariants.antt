@@ -8,4 +8,4 @@ use Rattle.owned.proofs.roots.mark_roots.Given as goal
 
 abbrev pub invariant-loop-i : goal.invariant-loop-i
 invariant-loop-i l =
-    (l.i ≤ l.k) × (length l.w ≡ length l.initial.w) × Marked (λ (x : ℕ). tick (root_of l.held.rows.now l.held.count x)) l.b l.s l.i l.initial.w l.w
+    (l.i ≤ l.ids.count) × (length l.w ≡ length l.initial.w) × Marked (λ (x : ℕ). tick (root_of l.held.rows.now l.held.count x)) l.ids.from l.ids.marks l.i l.initial.w l.w

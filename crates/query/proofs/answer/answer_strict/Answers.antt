@@ -8,8 +8,8 @@ returns-then-remote-gt0 c = search strict-barred
 
 pub returns-then-incomplete-gt0 : goal.returns-then-incomplete-gt0
 returns-then-incomplete-gt0 c =
-    λ l. strict-blocked c.args.id c.args.first.now c.list_marked-remote.new.list l (with_mark c.args.w.now c.args.b c.args.s 0 c.args.k) (with_mark c.args.w.now c.args.b c.args.s 1 c.args.k) c.list_marked-remote.result (c.list_marked-remote.ensures.list_after, c.list_marked-remote.ensures.value) c.if-remote-gt0.false _ c.list_marked-incomplete.result (c.list_marked-incomplete.ensures.list_after, c.list_marked-incomplete.ensures.value) c.if-incomplete-gt0.true
+    λ l. strict-blocked c.args.id c.args.first.now c.list_marked-remote.new.list l (with_mark c.args.w.now c.args.ids.from c.args.ids.marks 0 c.args.ids.count) (with_mark c.args.w.now c.args.ids.from c.args.ids.marks 1 c.args.ids.count) c.list_marked-remote.result (c.list_marked-remote.ensures.list_after, c.list_marked-remote.ensures.value) c.if-remote-gt0.false _ c.list_marked-incomplete.result (c.list_marked-incomplete.ensures.list_after, c.list_marked-incomplete.ensures.value) c.if-incomplete-gt0.true
 
 pub returns : goal.returns
 returns c =
-    λ l. strict-eligible c.args.id c.args.first.now c.list_marked-remote.new.list l (with_mark c.args.w.now c.args.b c.args.s 0 c.args.k) (with_mark c.args.w.now c.args.b c.args.s 1 c.args.k) c.list_marked-remote.result (c.list_marked-remote.ensures.list_after, c.list_marked-remote.ensures.value) c.if-remote-gt0.false _ c.list_marked-incomplete.result (c.list_marked-incomplete.ensures.list_after, c.list_marked-incomplete.ensures.value) c.if-incomplete-gt0.false
+    λ l. strict-eligible c.args.id c.args.first.now c.list_marked-remote.new.list l (with_mark c.args.w.now c.args.ids.from c.args.ids.marks 0 c.args.ids.count) (with_mark c.args.w.now c.args.ids.from c.args.ids.marks 1 c.args.ids.count) c.list_marked-remote.result (c.list_marked-remote.ensures.list_after, c.list_marked-remote.ensures.value) c.if-remote-gt0.false _ c.list_marked-incomplete.result (c.list_marked-incomplete.ensures.list_after, c.list_marked-incomplete.ensures.value) c.if-incomplete-gt0.false
