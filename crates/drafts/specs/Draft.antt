@@ -11,16 +11,28 @@ abbrev pub absent : Name
 absent = record { present = false; text = 0 }
 
 abbrev pub opened_update : ℕ → Update
-opened_update id = record { session = id; layout = false; epoch = 0; size = 0; error = false; code = 0; message = absent; resolved = absent; controller = absent; secure = absent }
+opened_update id =
+    record {
+      session = id;
+      layout = false;
+      epoch = 0;
+      size = 0;
+      error = false;
+      code = 0;
+      message = absent;
+      resolved = absent;
+      controller = absent;
+      secure = absent;
+    }
 
 abbrev pub with_layout : Update → ℕ → ℕ → Update
-with_layout u epoch size = record { session = u.session; layout = true; epoch = epoch; size = size; error = u.error; code = u.code; message = u.message; resolved = u.resolved; controller = u.controller; secure = u.secure }
+with_layout u epoch size = record u { layout = true; epoch = epoch; size = size }
 
 abbrev pub with_error : Update → ℕ → Name → Update
-with_error u code message = record { session = u.session; layout = u.layout; epoch = u.epoch; size = u.size; error = true; code = code; message = message; resolved = u.resolved; controller = u.controller; secure = u.secure }
+with_error u code message = record u { error = true; code = code; message = message }
 
 abbrev pub with_names : Update → Name → Name → Name → Update
-with_names u resolved controller secure = record { session = u.session; layout = u.layout; epoch = u.epoch; size = u.size; error = u.error; code = u.code; message = u.message; resolved = resolved; controller = controller; secure = secure }
+with_names u resolved controller secure = record u { resolved = resolved; controller = controller; secure = secure }
 
 -- the update after one line more
 abbrev pub said_more : Update → Line → Update
@@ -35,4 +47,3 @@ said_more u (L.Controller n) = with_names u u.resolved n u.secure
 said_more u (L.Secure n) = with_names u u.resolved u.controller n
 said_more u L.End = u
 said_more u (L.Query id mode history completed) = u
-said_more u L.Unreadable = u

@@ -7,11 +7,20 @@ use Rattle.reading.specs.declared.lines.Line.TheVariants as L
 use Rattle.drafts.specs.declared.places.Place.{Place}
 
 abbrev pub at_first : Place
-at_first = record { begun = false; inside = false; dated = false; told = false; resolved = false; controller = false; secure = false }
+at_first =
+    record {
+      begun = false;
+      inside = false;
+      dated = false;
+      told = false;
+      resolved = false;
+      controller = false;
+      secure = false;
+    }
 
 -- S was read, and no update is open
 abbrev pub between_updates : Place
-between_updates = record { begun = true; inside = false; dated = false; told = false; resolved = false; controller = false; secure = false }
+between_updates = record at_first { begun = true }
 
 abbrev pub in_place : Place → Line → Bool
 in_place p (L.Session id) = not p.begun
@@ -25,19 +34,17 @@ in_place p (L.Controller n) = p.inside && not p.controller
 in_place p (L.Secure n) = p.inside && not p.secure
 in_place p L.End = p.inside
 in_place p (L.Query id mode history completed) = p.begun && not p.inside
-in_place p L.Unreadable = false
 
 -- the place after a line that stood in its own
 abbrev pub after_line : Place → Line → Place
 after_line p (L.Session id) = between_updates
-after_line p (L.Update id) = record { begun = true; inside = true; dated = false; told = false; resolved = false; controller = false; secure = false }
-after_line p (L.Layout epoch size) = record { begun = p.begun; inside = p.inside; dated = true; told = p.told; resolved = p.resolved; controller = p.controller; secure = p.secure }
+after_line p (L.Update id) = record between_updates { inside = true }
+after_line p (L.Layout epoch size) = record p { dated = true }
 after_line p (L.Segment s) = p
 after_line p (L.Placement b) = p
-after_line p (L.Error code message) = record { begun = p.begun; inside = p.inside; dated = p.dated; told = true; resolved = p.resolved; controller = p.controller; secure = p.secure }
-after_line p (L.Resolved n) = record { begun = p.begun; inside = p.inside; dated = p.dated; told = p.told; resolved = true; controller = p.controller; secure = p.secure }
-after_line p (L.Controller n) = record { begun = p.begun; inside = p.inside; dated = p.dated; told = p.told; resolved = p.resolved; controller = true; secure = p.secure }
-after_line p (L.Secure n) = record { begun = p.begun; inside = p.inside; dated = p.dated; told = p.told; resolved = p.resolved; controller = p.controller; secure = true }
+after_line p (L.Error code message) = record p { told = true }
+after_line p (L.Resolved n) = record p { resolved = true }
+after_line p (L.Controller n) = record p { controller = true }
+after_line p (L.Secure n) = record p { secure = true }
 after_line p L.End = between_updates
 after_line p (L.Query id mode history completed) = p
-after_line p L.Unreadable = p

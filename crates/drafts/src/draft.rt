@@ -31,28 +31,24 @@ pub fn opened(id: u64) -> Update
 pub fn said(u: Update, line: Line) -> Update
     ensures { result ≡ said_more u line }
 {
-    let mut next = u;
     match line {
-        Line::Update(id) => next = opened(id),
-        Line::Layout(epoch, size) => {
-            next.layout = true;
-            next.epoch = epoch;
-            next.size = size;
-        }
-        Line::Error(code, message) => {
-            next.error = true;
-            next.code = code;
-            next.message = message;
-        }
-        Line::Resolved(name) => next.resolved = name,
-        Line::Controller(name) => next.controller = name,
-        Line::Secure(name) => next.secure = name,
-        Line::Session(_) => {}
-        Line::Segment(_) => {}
-        Line::Placement(_) => {}
-        Line::End => {}
-        Line::Query(_, _, _, _) => {}
-        Line::Unreadable => {}
+        Line::Update(id) => opened(id),
+        Line::Layout(epoch, size) => Update {
+            layout: true,
+            epoch,
+            size,
+            ..u
+        },
+        Line::Error(code, message) => Update {
+            error: true,
+            code,
+            message,
+            ..u
+        },
+        Line::Resolved(resolved) => Update { resolved, ..u },
+        Line::Controller(controller) => Update { controller, ..u },
+        Line::Secure(secure) => Update { secure, ..u },
+        Line::Session(_) | Line::Segment(_) | Line::Placement(_) => u,
+        Line::End | Line::Query(_, _, _, _) => u,
     }
-    next
 }

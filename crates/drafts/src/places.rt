@@ -1,11 +1,11 @@
 // Which lines may stand where: "a line .. out of its place (S first, once; D before s and p; others once an update)" is unreadable.
-ghost use Rattle.std.specs.Prelude.{◌≡◌, Bool, not, ◌&&◌};
+ghost use Rattle.std.specs.Prelude.{◌≡◌};
 ghost use Rattle.drafts.specs.Places.{at_first, between_updates, in_place, after_line};
 
 use reading::lines::Line;
 
 // What has been read: S, and of the update that is open U, D, e, n, c, t.
-#[derive(Clone, Copy)]
+#[derive(Clone, Copy, PartialEq, Eq, Debug)]
 pub struct Place {
     pub begun: bool,
     pub inside: bool,
@@ -35,41 +35,28 @@ pub fn at_first() -> Place
 fn between_updates() -> Place
     ensures { result ≡ between_updates }
 {
-    let mut p = at_first();
-    p.begun = true;
-    p
+    Place {
+        begun: true,
+        ..at_first()
+    }
 }
 
-// Whether a line once an update may stand here.
-fn once(here: bool, read: bool) -> bool
-    ensures { result ≡ here && not read }
-{
-    if here { !read } else { false }
-}
-
-fn both(a: bool, b: bool) -> bool
-    ensures { result ≡ a && b }
-{
-    if a { b } else { false }
-}
-
-// May this line stand here?
+// May this line stand here? An unreadable one stands nowhere: it is no `Line`.
 pub fn is_in_place(p: Place, line: Line) -> bool
     ensures { result ≡ in_place p line }
 {
     match line {
         Line::Session(_) => !p.begun,
-        Line::Update(_) => once(p.begun, p.inside),
-        Line::Layout(_, _) => once(p.inside, p.dated),
-        Line::Segment(_) => both(p.inside, p.dated),
-        Line::Placement(_) => both(p.inside, p.dated),
-        Line::Error(_, _) => once(p.inside, p.told),
-        Line::Resolved(_) => once(p.inside, p.resolved),
-        Line::Controller(_) => once(p.inside, p.controller),
-        Line::Secure(_) => once(p.inside, p.secure),
+        Line::Update(_) => p.begun && !p.inside,
+        Line::Layout(_, _) => p.inside && !p.dated,
+        Line::Segment(_) => p.inside && p.dated,
+        Line::Placement(_) => p.inside && p.dated,
+        Line::Error(_, _) => p.inside && !p.told,
+        Line::Resolved(_) => p.inside && !p.resolved,
+        Line::Controller(_) => p.inside && !p.controller,
+        Line::Secure(_) => p.inside && !p.secure,
         Line::End => p.inside,
-        Line::Query(_, _, _, _) => once(p.begun, p.inside),
-        Line::Unreadable => false,
+        Line::Query(_, _, _, _) => p.begun && !p.inside,
     }
 }
 
@@ -77,23 +64,23 @@ pub fn is_in_place(p: Place, line: Line) -> bool
 pub fn after_line(p: Place, line: Line) -> Place
     ensures { result ≡ after_line p line }
 {
-    let mut next = p;
     match line {
-        Line::Session(_) => return between_updates(),
-        Line::Update(_) => {
-            next = between_updates();
-            next.inside = true;
-        }
-        Line::Layout(_, _) => next.dated = true,
-        Line::Error(_, _) => next.told = true,
-        Line::Resolved(_) => next.resolved = true,
-        Line::Controller(_) => next.controller = true,
-        Line::Secure(_) => next.secure = true,
-        Line::End => return between_updates(),
-        Line::Segment(_) => {}
-        Line::Placement(_) => {}
-        Line::Query(_, _, _, _) => {}
-        Line::Unreadable => {}
+        Line::Session(_) | Line::End => between_updates(),
+        Line::Update(_) => Place {
+            inside: true,
+            ..between_updates()
+        },
+        Line::Layout(_, _) => Place { dated: true, ..p },
+        Line::Error(_, _) => Place { told: true, ..p },
+        Line::Resolved(_) => Place {
+            resolved: true,
+            ..p
+        },
+        Line::Controller(_) => Place {
+            controller: true,
+            ..p
+        },
+        Line::Secure(_) => Place { secure: true, ..p },
+        Line::Segment(_) | Line::Placement(_) | Line::Query(_, _, _, _) => p,
     }
-    next
 }

@@ -1,21 +1,24 @@
 // The two answers that the listing prints: of an update, and of an ordering query. Areas that no line comes back to are lent from here.
-use crate::tables::first_bytes;
+ghost use Rattle.lister.specs.Listing.{IsKept};
+
+use crate::tables::Tables;
+use crate::{Standing, tables};
 use held::HeldTables;
 use std::io;
 use types::lent::{History, Lists};
-use types::records::{OrderingMode, SegmentId, Session, Update};
+use types::records::{OrderingMode, SegmentId, Session};
 
 // The update that `.` ends: its answer is printed, and the session after it handed back.
-pub fn end_update(
-    rt: &impl Print,
-    session: Session,
-    update: Update,
-    rows: &[u64],
-    edges: &[u64],
-    places: &[u64],
-    held: &mut [u64],
-    links: &mut [u64],
-) -> io::Result<Session> {
+pub fn end_update(rt: &impl Print, at: Standing, tables: &mut Tables) -> io::Result<Session>
+    ensures { IsKept at.edges tables.old tables.new }
+{
+    let session = at.session;
+    let update = at.update;
+    let rows = tables::first(&tables.rows, at.rows);
+    let edges = tables::first(&tables.edges, at.edges);
+    let places = tables::first(&tables.places, at.places);
+    let held: &mut [u64] = &mut tables.held;
+    let links: &mut [u64] = &mut tables.links;
     // 32 words for each of 32 rows, 32 placements, 64 edge words and 32 held rows
     let mut work = [0u64; 5120];
     let mut order = [0u64; 32];
@@ -51,7 +54,7 @@ pub fn end_update(
         &splits,
         &merges,
     );
-    rt.write_all(first_bytes(&out, n))?;
+    rt.write_all(tables::first(&out, n))?;
     Ok(o.session)
 }
 
@@ -59,25 +62,26 @@ pub fn end_update(
 pub fn ask(
     rt: &impl Print,
     session: Session,
-    held: &[u64],
-    links: &[u64],
+    tables: &Tables,
     id: u64,
     mode: OrderingMode,
     history: &[u64],
     completed: &[u64],
 ) -> io::Result<()> {
+    let rows: &[u64] = &tables.held;
+    let edges: &[u64] = &tables.links;
     // 32 words for each of 64 held edge words and 32 held rows
     let mut work = [0u64; 3072];
     let mut first = [0u64; 65];
     let mut second = [0u64; 65];
-    let tables = HeldTables {
-        rows: held,
-        edges: links,
+    let held = HeldTables {
+        rows,
+        edges,
         count: session::held_rows(session),
         edge_count: session::held_edges(session),
     };
     let asked = ordering::ordering_eligibility(
-        &tables,
+        &held,
         mode,
         SegmentId(id),
         &History {
@@ -93,12 +97,12 @@ pub fn ask(
     let answer = asked.eligibility;
     let mut out = [0u8; 4096];
     let n = printing::queries::put_ordering(&mut out, 0, answer, &first, &second);
-    rt.write_all(first_bytes(&out, n))
+    rt.write_all(tables::first(&out, n))
 }
 
 // An unreadable line, by its number.
 pub fn tell_unreadable(rt: &impl Print, line: u64) -> io::Result<()> {
     let mut out = [0u8; 32];
     let n = printing::queries::put_unreadable(&mut out, 0, line);
-    rt.write_all(first_bytes(&out, n))
+    rt.write_all(tables::first(&out, n))
 }

@@ -2,24 +2,25 @@
 // a line says is `reading`'s, where it may stand `drafts`', what an answer looks like `printing`'s.
 #![tactic(auto)]
 
-ghost use Rattle.std.specs.Prelude.{◌≡◌, ◌≤◌, OnErr};
+ghost use Rattle.std.specs.Prelude.{◌≡◌, OnErr};
 
+use crate::input::Input;
+use crate::tables::Tables;
 use drafts::places::Place;
-use reading::kept::Kept;
 use reading::lines::Line;
 use std::io;
 use std::io::Read;
 use types::records::{Broker, OrderingMode, SegmentInfo, Session, Update};
 
 mod answering;
+pub mod input;
 mod tables;
 
 // Where the listing stands between two bytes.
 #[derive(Clone, Copy)]
-pub struct Listing {
-    // how many bytes of the line are in its buffer, and whether they are not all
-    pub len: usize,
-    pub long: bool,
+pub struct Standing {
+    // how many bytes of the line are in its buffer; None: it is too long for it
+    pub kept: Option<usize>,
     // whether a byte of the line was read
     pub begun: bool,
     // lines read whole
@@ -35,310 +36,194 @@ pub struct Listing {
     pub places: usize,
 }
 
-// Before the first byte.
-pub fn start() -> Listing {
-    Listing {
-        len: 0,
-        long: false,
-        begun: false,
-        lines: 0,
-        stopped: false,
-        place: drafts::places::at_first(),
-        session: session::new_session(0),
-        update: drafts::draft::opened(0),
-        rows: 0,
-        edges: 0,
-        places: 0,
-    }
-}
-
 // `X` and the line's number, and no line after it.
-fn stop(rt: &impl Print, l: Listing) -> io::Result<Listing> {
-    answering::tell_unreadable(rt, l.lines)?;
-    let mut next = l;
-    next.stopped = true;
-    Ok(next)
+fn stop(rt: &impl Print, at: Standing) -> io::Result<Standing> {
+    answering::tell_unreadable(rt, at.lines)?;
+    Ok(Standing {
+        stopped: true,
+        ..at
+    })
 }
 
-// The next line begins; its number stays in 64 bits, and no run reads as many lines.
-fn next_line(l: Listing) -> Listing {
-    let mut next = l;
-    next.len = 0;
-    next.long = false;
-    next.begun = false;
-    if l.lines < u64::MAX {
-        next.lines = l.lines + 1;
+// A listing: where it stands, and its areas. A call that fails does so because a write failed, and leaves it standing where it stood.
+#[derive(Clone, Copy)]
+pub struct Listing {
+    pub at: Standing,
+    pub tables: Tables,
+}
+
+impl Listing {
+    ghost use Rattle.drafts.specs.Places.{at_first};
+    ghost use Rattle.lister.specs.Listing.{IsKept, IsLeft};
+
+    // Before the first byte.
+    pub fn new() -> Listing
+        ensures no_line { result.at.lines ≡ 0 }
+        ensures first { result.at.place ≡ at_first }
+    {
+        let at = Standing {
+            kept: Some(0),
+            begun: false,
+            lines: 0,
+            stopped: false,
+            place: drafts::places::at_first(),
+            session: session::new_session(0),
+            update: drafts::draft::opened(0),
+            rows: 0,
+            edges: 0,
+            places: 0,
+        };
+        Listing {
+            at,
+            tables: tables::empty(),
+        }
     }
-    next
-}
 
-fn add_segment(rt: &impl Print, l: Listing, rows: &mut [u64], s: SegmentInfo) -> io::Result<Listing>
-    ensures { OnErr result (rows.new ≡ rows.old) }
-{
-    if !tables::add_segment(rows, l.rows, s) {
-        return stop(rt, l);
+    fn add_segment(&mut self, rt: &impl Print, at: Standing, s: SegmentInfo) -> io::Result<Standing>
+        ensures stands { self.new.at ≡ self.old.at }
+        ensures on_err { OnErr result (self.new ≡ self.old) }
+    {
+        if !tables::add_segment(&mut self.tables.rows, at.rows, s) {
+            return stop(rt, at);
+        }
+        let edges = at.edges.saturating_add(s.parents as usize);
+        Ok(Standing {
+            rows: at.rows.saturating_add(rules::ROW),
+            edges: edges.saturating_add(s.children as usize),
+            ..at
+        })
     }
-    let mut next = l;
-    next.rows = tables::further(l.rows, rules::ROW as u64);
-    next.edges = tables::further(tables::further(l.edges, s.parents), s.children);
-    Ok(next)
-}
 
-fn add_placement(rt: &impl Print, l: Listing, places: &mut [u64], b: Broker) -> io::Result<Listing>
-    ensures { OnErr result (places.new ≡ places.old) }
-{
-    if !tables::add_placement(places, l.places, b) {
-        return stop(rt, l);
+    fn add_placement(&mut self, rt: &impl Print, at: Standing, b: Broker) -> io::Result<Standing>
+        ensures stands { self.new.at ≡ self.old.at }
+        ensures on_err { OnErr result (self.new ≡ self.old) }
+    {
+        if !tables::add_placement(&mut self.tables.places, at.places, b) {
+            return stop(rt, at);
+        }
+        Ok(Standing {
+            places: at.places.saturating_add(rules::PLACE),
+            ..at
+        })
     }
-    let mut next = l;
-    next.places = tables::further(l.places, rules::PLACE as u64);
-    Ok(next)
-}
 
-// The tables of the update are their filled words.
-fn end_update(
-    rt: &impl Print,
-    l: Listing,
-    rows: &[u64],
-    edges: &[u64],
-    places: &[u64],
-    held: &mut [u64],
-    links: &mut [u64],
-) -> io::Result<Listing> {
-    let mut next = l;
-    next.session = answering::end_update(
-        rt,
-        l.session,
-        l.update,
-        tables::first(rows, l.rows),
-        tables::first(edges, l.edges),
-        tables::first(places, l.places),
-        held,
-        links,
-    )?;
-    Ok(next)
-}
-
-fn ask(
-    rt: &impl Print,
-    l: Listing,
-    held: &[u64],
-    links: &[u64],
-    id: u64,
-    mode: OrderingMode,
-    history: &[u64],
-    completed: &[u64],
-) -> io::Result<Listing> {
-    answering::ask(rt, l.session, held, links, id, mode, history, completed)?;
-    Ok(l)
-}
-
-// What a line that stands in its place does.
-fn act(
-    rt: &impl Print,
-    l: Listing,
-    line: Line,
-    rows: &mut [u64],
-    edges: &[u64],
-    places: &mut [u64],
-    held: &mut [u64],
-    links: &mut [u64],
-    history: &[u64],
-    completed: &[u64],
-) -> io::Result<Listing>
-    ensures rows_on_err { OnErr result (rows.new ≡ rows.old) }
-    ensures places_on_err { OnErr result (places.new ≡ places.old) }
-{
-    match line {
-        Line::Session(id) => Ok(begin_session(l, id)),
-        Line::Update(_) => Ok(begin_update(l)),
-        Line::Segment(s) => add_segment(rt, l, rows, s),
-        Line::Placement(b) => add_placement(rt, l, places, b),
-        Line::End => end_update(rt, l, rows, edges, places, held, links),
-        Line::Query(id, mode, owned, done) => ask(
-            rt,
-            l,
-            held,
-            links,
-            id,
-            mode,
-            tables::first(history, owned),
-            tables::first(completed, done),
-        ),
-        Line::Layout(_, _) => Ok(l),
-        Line::Error(_, _) => Ok(l),
-        Line::Resolved(_) => Ok(l),
-        Line::Controller(_) => Ok(l),
-        Line::Secure(_) => Ok(l),
-        Line::Unreadable => stop(rt, l),
+    // What a line that stands in its place does.
+    fn act(
+        &mut self,
+        rt: &impl Print,
+        at: Standing,
+        line: Line,
+        history: &[u64],
+        completed: &[u64],
+    ) -> io::Result<Standing>
+        ensures stands { self.new.at ≡ self.old.at }
+        ensures on_err { OnErr result (IsKept at.edges self.old.tables self.new.tables) }
+    {
+        match line {
+            Line::Session(id) => Ok(Standing {
+                session: session::new_session(id),
+                ..at
+            }),
+            Line::Update(_) => Ok(Standing {
+                rows: 0,
+                edges: 0,
+                places: 0,
+                ..at
+            }),
+            Line::Segment(s) => self.add_segment(rt, at, s),
+            Line::Placement(b) => self.add_placement(rt, at, b),
+            Line::End => {
+                let session = answering::end_update(rt, at, &mut self.tables)?;
+                Ok(Standing { session, ..at })
+            }
+            Line::Query(id, mode, owned, done) => {
+                let history = tables::first(history, owned);
+                let completed = tables::first(completed, done);
+                answering::ask(rt, at.session, &self.tables, id, mode, history, completed)?;
+                Ok(at)
+            }
+            Line::Layout(_, _) | Line::Error(_, _) => Ok(at),
+            Line::Resolved(_) | Line::Controller(_) | Line::Secure(_) => Ok(at),
+        }
     }
-}
 
-fn begin_session(l: Listing, id: u64) -> Listing {
-    let mut next = l;
-    next.session = session::new_session(id);
-    next
-}
+    // A whole line, without its end.
+    fn take_line(&mut self, rt: &impl Print, at: Standing, bytes: usize) -> io::Result<Standing>
+        ensures stands { self.new.at ≡ self.old.at }
+        ensures on_err { OnErr result (IsKept at.edges self.old.tables self.new.tables) }
+    {
+        let mut history = [0u64; 64];
+        let mut completed = [0u64; 64];
+        let line = tables::first(&self.tables.line, bytes);
+        let said = tables::read_behind(
+            line,
+            &mut self.tables.edges,
+            at.edges,
+            &mut history,
+            &mut completed,
+        );
+        let Some(line) = said else {
+            return stop(rt, at);
+        };
+        if !drafts::places::is_in_place(at.place, line) {
+            return stop(rt, at);
+        }
+        let next = Standing {
+            place: drafts::places::after_line(at.place, line),
+            update: drafts::draft::said(at.update, line),
+            ..at
+        };
+        self.act(rt, next, line, &history, &completed)
+    }
 
-fn begin_update(l: Listing) -> Listing {
-    let mut next = l;
-    next.rows = 0;
-    next.edges = 0;
-    next.places = 0;
-    next
-}
+    // The line in the buffer is whole.
+    fn end_line(&mut self, rt: &impl Print) -> io::Result<()>
+        ensures on_err { OnErr result (IsLeft self.old self.new) }
+    {
+        let was = self.at;
+        // the next line begins; its number stays in 64 bits, and no run reads as many lines
+        let at = Standing {
+            kept: Some(0),
+            begun: false,
+            lines: was.lines.saturating_add(1),
+            ..was
+        };
+        let next = match was.kept {
+            None => stop(rt, at)?,
+            Some(bytes) => self.take_line(rt, at, bytes)?,
+        };
+        self.at = next;
+        Ok(())
+    }
 
-// A whole line, without its end.
-fn take_line(
-    rt: &impl Print,
-    l: Listing,
-    line: &[u8],
-    rows: &mut [u64],
-    edges: &mut [u64],
-    places: &mut [u64],
-    held: &mut [u64],
-    links: &mut [u64],
-) -> io::Result<Listing>
-    ensures rows_on_err { OnErr result (rows.new ≡ rows.old) }
-    ensures places_on_err { OnErr result (places.new ≡ places.old) }
-{
-    let mut history = [0u64; 64];
-    let mut completed = [0u64; 64];
-    let said = tables::read_behind(line, edges, l.edges, &mut history, &mut completed);
-    if !drafts::places::is_in_place(l.place, said) {
-        return stop(rt, l);
+    // One byte more of the line.
+    fn keep(&mut self, b: u8) {
+        let kept = reading::kept::take_byte(&mut self.tables.line, self.at.kept, b);
+        self.at.kept = kept;
+        self.at.begun = true;
     }
-    let mut next = l;
-    next.place = drafts::places::after_line(l.place, said);
-    next.update = drafts::draft::said(l.update, said);
-    act(
-        rt, next, said, rows, edges, places, held, links, &history, &completed,
-    )
-}
 
-// The line in the buffer is whole.
-fn end_line(
-    rt: &impl Print,
-    l: Listing,
-    line: &[u8],
-    rows: &mut [u64],
-    edges: &mut [u64],
-    places: &mut [u64],
-    held: &mut [u64],
-    links: &mut [u64],
-) -> io::Result<Listing>
-    ensures rows_on_err { OnErr result (rows.new ≡ rows.old) }
-    ensures places_on_err { OnErr result (places.new ≡ places.old) }
-{
-    let next = next_line(l);
-    if l.long {
-        return stop(rt, next);
+    // One byte more of the input.
+    pub fn take_byte(&mut self, rt: &impl Print, b: u8) -> io::Result<()>
+        ensures on_err { OnErr result (IsLeft self.old self.new) }
+    {
+        if self.at.stopped {
+            return Ok(());
+        }
+        if b == b'\n' {
+            return self.end_line(rt);
+        }
+        self.keep(b);
+        Ok(())
     }
-    take_line(
-        rt,
-        next,
-        tables::first_bytes(line, l.len),
-        rows,
-        edges,
-        places,
-        held,
-        links,
-    )
-}
 
-// One byte more of the line.
-fn keep(l: Listing, b: u8, line: &mut [u8]) -> Listing {
-    let mut next = l;
-    next.begun = true;
-    if l.long {
-        return next;
+    // The end of the input. A last line without its newline is read.
+    pub fn finish(&mut self, rt: &impl Print) -> io::Result<()>
+        ensures on_err { OnErr result (IsLeft self.old self.new) }
+    {
+        if self.at.stopped || !self.at.begun {
+            return Ok(());
+        }
+        self.end_line(rt)
     }
-    match reading::kept::take_byte(line, Kept::Bytes(l.len), b) {
-        Kept::Bytes(n) => next.len = n,
-        Kept::TooLong => next.long = true,
-    }
-    next
-}
-
-// One byte more of the input. The only error is that of a write that failed. It leaves the line and the update's rows and placements as they
-// were; the edge words behind those of the rows before may be those of the line, and held rows and edges are what the update left.
-pub fn take_byte(
-    rt: &impl Print,
-    l: Listing,
-    b: u8,
-    line: &mut [u8],
-    rows: &mut [u64],
-    edges: &mut [u64],
-    places: &mut [u64],
-    held: &mut [u64],
-    links: &mut [u64],
-) -> io::Result<Listing>
-    ensures line_on_err { OnErr result (line.new ≡ line.old) }
-    ensures rows_on_err { OnErr result (rows.new ≡ rows.old) }
-    ensures places_on_err { OnErr result (places.new ≡ places.old) }
-{
-    if l.stopped {
-        return Ok(l);
-    }
-    if b == b'\n' {
-        return end_line(rt, l, line, rows, edges, places, held, links);
-    }
-    Ok(keep(l, b, line))
-}
-
-// The end of the input. A last line without its newline is read. An error is and leaves what one of `take_byte` does.
-pub fn finish(
-    rt: &impl Print,
-    l: Listing,
-    line: &[u8],
-    rows: &mut [u64],
-    edges: &mut [u64],
-    places: &mut [u64],
-    held: &mut [u64],
-    links: &mut [u64],
-) -> io::Result<()>
-    ensures rows_on_err { OnErr result (rows.new ≡ rows.old) }
-    ensures places_on_err { OnErr result (places.new ≡ places.old) }
-{
-    if l.stopped {
-        return Ok(());
-    }
-    if l.begun {
-        end_line(rt, l, line, rows, edges, places, held, links)?;
-    }
-    Ok(())
-}
-
-// How many bytes are in the buffer: the n that were there while place i is among them, else those that the next read brings. None: the input
-// has ended. The only error is that of this read, which leaves no byte of the buffer to be counted on.
-pub fn refill(input: &mut impl Read, buffer: &mut [u8], i: usize, n: usize) -> io::Result<usize>
-    ensures { OnErr result (n ≤ i) }
-{
-    if i < n {
-        return Ok(n);
-    }
-    input.read(buffer)
-}
-
-// The place that is read next: i, or the first of a buffer that was read anew.
-pub fn place_in(i: usize, n: usize) -> usize {
-    if i < n {
-        return i;
-    }
-    0
-}
-
-pub fn place_after(i: usize) -> usize {
-    if i < usize::MAX {
-        return i + 1;
-    }
-    i
-}
-
-// A byte of the buffer; 0 past its end.
-pub fn byte_at(buffer: &[u8], i: usize) -> u8 {
-    if i < buffer.len() {
-        return buffer[i];
-    }
-    0
 }

@@ -1,5 +1,6 @@
 -- A bare field says what the field says: as a number, a code, an optional text, a list, and where it is asked for a letter. An edge is no
 -- digit, so that behind the first byte of a number nothing leads. By induction on the field. Assumes nothing.
+use Rattle.std.specs.Prelude.{Option, Some, None}
 use mathlib.Core.Path.{◌≡◌, refl, sym, ap, ◌∙◌}
 use mathlib.Core.Bool.{Bool, true, false, cond}
 use mathlib.Core.List.{List, [], ◌∷◌}
@@ -7,8 +8,6 @@ use Prim.Native.Nat.{ℕ, zero, suc}
 use native.Mathlib.Omega.{arith}
 use borrow.Author.Tests.{eqb-true}
 use lib.Dec.{eqb}
-use Rattle.reading.specs.declared.numbers.Number.{Number}
-use Rattle.reading.specs.declared.numbers.Number.TheVariants.{Value, NoNumber}
 use Rattle.reading.specs.Numbers.{is_digit, grown, onward, number_of, plain_code, minus_code, code_of}
 use Rattle.reading.specs.Fields.{letter_of, option_of}
 use Rattle.reading.specs.Lists.{items_of, numbers_of, list_of}
@@ -36,7 +35,7 @@ no-digit-is d m h n = go (eqb d m) refl
     go true q = absurd (let f : is_digit d ≡ false = rw (eqb-true d m q) n in let z : ◌≡◌ {A = ℕ} 0 1 = cc in omega arith)
     go false q = refl
 
-no_digit : (v b : ℕ) → is_digit b ≡ false → grown v b ≡ NoNumber
+no_digit : (v b : ℕ) → is_digit b ≡ false → grown v b ≡ None
 unfolding grown
 no_digit v b e = rw e refl
 
@@ -46,9 +45,9 @@ unfolding bare
 grown-bare v b [] = refl
 grown-bare v b (c ∷ s) = go (λ w. grown-bare w c s) (is_edge b) refl
   where
-    next : ((w : ℕ) → onward (grown w c) (bare c s) ≡ onward (grown w c) s) → (n : Number) → onward n (c ∷ bare c s) ≡ onward n (c ∷ s)
-    next ih NoNumber = refl
-    next ih (Value w) = ih w
+    next : ((w : ℕ) → onward (grown w c) (bare c s) ≡ onward (grown w c) s) → (n : Option ℕ) → onward n (c ∷ bare c s) ≡ onward n (c ∷ s)
+    next ih None = refl
+    next ih (Some w) = ih w
 
     go : ((w : ℕ) → onward (grown w c) (bare c s) ≡ onward (grown w c) s) → (t : Bool) → is_edge b ≡ t
         → onward (grown v b) (bare b (c ∷ s)) ≡ onward (grown v b) (c ∷ s)

@@ -1,9 +1,9 @@
 -- How long a bare field is that says something, by the length of a bare number: a letter, `-`, a code, a list of at most so many numbers.
 -- Assumes nothing.
+use Rattle.std.specs.Prelude.{Option, Some, None}
 use mathlib.Core.Path.{◌≡◌, refl, sym, ap, ◌∙◌}
 use mathlib.Core.Bool.{Bool, true, false, cond}
 use mathlib.Core.List.{List, [], ◌∷◌}
-use mathlib.Core.Option.{Option, none, some}
 use Prim.Native.Nat.{ℕ, zero, suc, ◌+◌, ◌*◌, ◌≤◌}
 use native.Mathlib.Omega.{arith}
 use borrow.Author.Tests.{eqb-true}
@@ -11,11 +11,6 @@ use lib.Dec.{eqb}
 use lib.ListN.{length, take}
 use Rattle.types.specs.declared.records.Optional.{Optional}
 use Rattle.types.specs.declared.records.OrderingMode.{OrderingMode}
-use Rattle.reading.specs.declared.numbers.Number.{Number}
-use Rattle.reading.specs.declared.numbers.Number.TheVariants.{Value, NoNumber}
-use Rattle.reading.specs.declared.numbers.Code.TheVariants.{Bits}
-use Rattle.reading.specs.declared.fields.Choice.TheVariants.{Chosen}
-use Rattle.reading.specs.declared.lines.Mode.TheVariants.{Known, NoMode}
 use Rattle.reading.specs.Numbers.{number_of, plain_code, minus_code, code_of}
 use Rattle.reading.specs.Fields.{split, push, up_to, letter_of, present, option_of}
 use Rattle.reading.specs.Lists.{items_of, before, numbers_of, list_of}
@@ -37,38 +32,38 @@ letter-short x (b ∷ c ∷ s) h = absurd (h refl)
 minus-short : (x : ℕ) (s : List ℕ) → eqb (letter_of s) 45 ≡ true → length (bare x s) ≤ 1
 minus-short x s e = letter-short x s (λ z. let m : letter_of s ≡ 45 = eqb-true (letter_of s) 45 e in omega arith)
 
-pub mode-short : (x : ℕ) (m : OrderingMode) (s : List ℕ) → mode_of (letter_of s) ≡ Known m → length (bare x s) ≤ 1
+pub mode-short : (x : ℕ) (m : OrderingMode) (s : List ℕ) → mode_of (letter_of s) ≡ Some m → length (bare x s) ≤ 1
 mode-short x m s e = letter-short x s none-there
   where
     none-there : letter_of s ≡ 0 → ⊥
-    none-there z = let f : NoMode ≡ Known m = rw z at e in let z : ◌≡◌ {A = ℕ} 0 1 = cc in omega arith
+    none-there z = let f : None ≡ Some m = rw z at e in let z : ◌≡◌ {A = ℕ} 0 1 = cc in omega arith
 
 -- ---- an option, a code
 
-pub option-short : (x : ℕ) (o : Optional) (s : List ℕ) → is_edge x ≡ true → option_of s ≡ Chosen o → length (bare x s) ≤ 20
+pub option-short : (x : ℕ) (o : Optional) (s : List ℕ) → is_edge x ≡ true → option_of s ≡ Some o → length (bare x s) ≤ 20
 unfolding option_of
 option-short x o s h e = go (eqb (letter_of s) 45) refl (number_of s) refl e
   where
-    go : (t : Bool) → eqb (letter_of s) 45 ≡ t → (n : Number) → number_of s ≡ n → cond t (Chosen (record { flag = 0; word = 0 })) (present n) ≡ Chosen o → length (bare x s) ≤ 20
+    go : (t : Bool) → eqb (letter_of s) 45 ≡ t → (n : Option ℕ) → number_of s ≡ n → cond t (Some (record { flag = 0; word = 0 })) (present n) ≡ Some o → length (bare x s) ≤ 20
     go true q n r e = omega (arith, minus-short x s q)
-    go false q NoNumber r e = absurd (let z : ◌≡◌ {A = ℕ} 0 1 = cc in omega arith)
-    go false q (Value v) r e = number_short x v s h r
+    go false q None r e = absurd (let z : ◌≡◌ {A = ℕ} 0 1 = cc in omega arith)
+    go false q (Some v) r e = number_short x v s h r
 
-pub code-short : (x v : ℕ) (s : List ℕ) → is_edge x ≡ true → code_of s ≡ Bits v → length (bare x s) ≤ 21
+pub code-short : (x v : ℕ) (s : List ℕ) → is_edge x ≡ true → code_of s ≡ Some v → length (bare x s) ≤ 21
 unfolding code_of bare
 code-short x v [] h e = omega arith
 code-short x v (b ∷ s) h e = go (eqb b 45) refl e
   where
-    plain : (n : Number) → number_of (b ∷ s) ≡ n → plain_code n ≡ Bits v → length (bare x (b ∷ s)) ≤ 21
-    plain NoNumber q e = absurd (let z : ◌≡◌ {A = ℕ} 0 1 = cc in omega arith)
-    plain (Value u) q e = omega (arith, number_short x u (b ∷ s) h q)
+    plain : (n : Option ℕ) → number_of (b ∷ s) ≡ n → plain_code n ≡ Some v → length (bare x (b ∷ s)) ≤ 21
+    plain None q e = absurd (let z : ◌≡◌ {A = ℕ} 0 1 = cc in omega arith)
+    plain (Some u) q e = omega (arith, number_short x u (b ∷ s) h q)
 
-    minus : b ≡ 45 → (n : Number) → number_of s ≡ n → minus_code n ≡ Bits v → (t : Bool) → leads x b s ≡ t → length (cond t (bare x s) (b ∷ bare b s)) ≤ 21
-    minus m NoNumber q e t l = absurd (let z : ◌≡◌ {A = ℕ} 0 1 = cc in omega arith)
-    minus m (Value u) q e true l = absurd (omega (arith, leads-zero x b s l))
-    minus m (Value u) q e false l = omega (arith, number_short b u s (rw m refl) q)
+    minus : b ≡ 45 → (n : Option ℕ) → number_of s ≡ n → minus_code n ≡ Some v → (t : Bool) → leads x b s ≡ t → length (cond t (bare x s) (b ∷ bare b s)) ≤ 21
+    minus m None q e t l = absurd (let z : ◌≡◌ {A = ℕ} 0 1 = cc in omega arith)
+    minus m (Some u) q e true l = absurd (omega (arith, leads-zero x b s l))
+    minus m (Some u) q e false l = omega (arith, number_short b u s (rw m refl) q)
 
-    go : (t : Bool) → eqb b 45 ≡ t → cond t (minus_code (number_of s)) (plain_code (number_of (b ∷ s))) ≡ Bits v → length (bare x (b ∷ s)) ≤ 21
+    go : (t : Bool) → eqb b 45 ≡ t → cond t (minus_code (number_of s)) (plain_code (number_of (b ∷ s))) ≡ Some v → length (bare x (b ∷ s)) ≤ 21
     go true q e = minus (eqb-true b 45 q) (number_of s) refl e (leads x b s) refl
     go false q e = plain (number_of (b ∷ s)) refl e
 
@@ -90,7 +85,7 @@ split-total sep (b ∷ s) = go (split-total sep s) (eqb b sep)
 
 -- ---- a list
 
-items-short : (sep x room : ℕ) (is : List (List ℕ)) (vs : List ℕ) → is_edge sep ≡ true → is_edge x ≡ true → numbers_of room is ≡ some vs
+items-short : (sep x room : ℕ) (is : List (List ℕ)) (vs : List ℕ) → is_edge sep ≡ true → is_edge x ≡ true → numbers_of room is ≡ Some vs
     → (total (bare_parts sep x is) ≤ 21 * length vs) × (length vs ≤ room)
 unfolding total numbers_of bare_parts
 items-short sep x room [] vs g h e =
@@ -100,23 +95,23 @@ items-short sep x room [] vs g h e =
 items-short sep x zero (i ∷ is) vs g h e = absurd (let z : ◌≡◌ {A = ℕ} 0 1 = cc in omega arith)
 items-short sep x (suc room) (i ∷ is) vs g h e = go (items-short sep sep room is) (number_of i) refl (numbers_of room is) refl e
   where
-    go : ((us : List ℕ) → is_edge sep ≡ true → is_edge sep ≡ true → numbers_of room is ≡ some us → (total (bare_parts sep sep is) ≤ 21 * length us) × (length us ≤ room))
-        → (n : Number) → number_of i ≡ n → (o : Option (List ℕ)) → numbers_of room is ≡ o → before n o ≡ some vs
+    go : ((us : List ℕ) → is_edge sep ≡ true → is_edge sep ≡ true → numbers_of room is ≡ Some us → (total (bare_parts sep sep is) ≤ 21 * length us) × (length us ≤ room))
+        → (n : Option ℕ) → number_of i ≡ n → (o : Option (List ℕ)) → numbers_of room is ≡ o → before n o ≡ Some vs
         → (suc (length (bare x i)) + total (bare_parts sep sep is) ≤ 21 * length vs) × (length vs ≤ suc room)
-    go ih NoNumber p o q e = absurd (let z : ◌≡◌ {A = ℕ} 0 1 = cc in omega arith)
-    go ih (Value v) p none q e = absurd (let z : ◌≡◌ {A = ℕ} 0 1 = cc in omega arith)
-    go ih (Value v) p (some us) q e =
+    go ih None p o q e = absurd (let z : ◌≡◌ {A = ℕ} 0 1 = cc in omega arith)
+    go ih (Some v) p None q e = absurd (let z : ◌≡◌ {A = ℕ} 0 1 = cc in omega arith)
+    go ih (Some v) p (Some us) q e =
         let c : v ∷ us ≡ vs = cc in
         let n : suc (length us) ≡ length vs = ap length c in
         let b : length (bare x i) ≤ 20 = number_short x v i h p in
         let t : (total (bare_parts sep sep is) ≤ 21 * length us) × (length us ≤ room) = ih us g g q in
         (omega (arith, t.0), omega (arith, t.1))
 
-pub list-short : (x room : ℕ) (vs s : List ℕ) → is_edge x ≡ true → list_of room s ≡ some vs → (length (bare x s) ≤ 21 * length vs + 1) × (length vs ≤ room)
+pub list-short : (x room : ℕ) (vs s : List ℕ) → is_edge x ≡ true → list_of room s ≡ Some vs → (length (bare x s) ≤ 21 * length vs + 1) × (length vs ≤ room)
 unfolding list_of
 list-short x room vs s h e = go (eqb (letter_of s) 45) refl e
   where
-    go : (t : Bool) → eqb (letter_of s) 45 ≡ t → cond t (some []) (numbers_of room (items_of s)) ≡ some vs → (length (bare x s) ≤ 21 * length vs + 1) × (length vs ≤ room)
+    go : (t : Bool) → eqb (letter_of s) 45 ≡ t → cond t (Some []) (numbers_of room (items_of s)) ≡ Some vs → (length (bare x s) ≤ 21 * length vs + 1) × (length vs ≤ room)
     go true q e =
         let c : [] ≡ vs = cc in
         let n : 0 ≡ length vs = ap length c in

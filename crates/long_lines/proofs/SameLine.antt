@@ -7,7 +7,7 @@ use lib.ListN.{length}
 use Rattle.reading.specs.Numbers.{number_of, code_of}
 use Rattle.reading.specs.Fields.{fields_of, field, letter_of, option_of}
 use Rattle.reading.specs.Lists.{list_of}
-use Rattle.reading.specs.Lines.{mode_of, sole_number, sole_option, layout_line, placement_line, error_line, end_line, row_of, segment_line, query_line, plain_line, line_of}
+use Rattle.reading.specs.Lines.{mode_of, sole_number, sole_name, layout_line, placement_line, error_line, end_line, row_of, segment_line, query_line, plain_line, line_of}
 
 pub record Same (a b : List ℕ) : Type 0 where
   pub count : length (fields_of a) ≡ length (fields_of b)
@@ -23,9 +23,9 @@ module _ (a b : List ℕ) (s : Same a b) where
   unfolding sole_number
   sole-number = rw (s.count, s.number 0) refl
 
-  sole-option : sole_option a ≡ sole_option b
-  unfolding sole_option
-  sole-option = rw (s.count, s.option 0) refl
+  sole-name : sole_name a ≡ sole_name b
+  unfolding sole_name
+  sole-name = rw (s.count, s.option 0) refl
 
   layout : layout_line a ≡ layout_line b
   unfolding layout_line
@@ -56,7 +56,7 @@ module _ (a b : List ℕ) (s : Same a b) where
   query history completed = rw (s.count, s.number 0, s.mode 1, s.list 2 history, s.list 3 completed) refl
 
   plain-line : (letter : ℕ) → plain_line letter a ≡ plain_line letter b
-  plain-line letter = rw (sole-number, sole-option, layout, placement, error, end) refl
+  plain-line letter = rw (sole-number, sole-name, layout, placement, error, end) refl
 
   pub same_line : (edges history completed : ℕ) → line_of edges history completed a ≡ line_of edges history completed b
   unfolding line_of

@@ -1,20 +1,12 @@
 -- A field says nothing, or it says something and is short; and how many bytes are kept of a line, by the fields of the line.
 -- Assumes nothing.
+use Rattle.std.specs.Prelude.{Option, Some, None}
 use mathlib.Core.Path.{◌≡◌, refl, sym, ap, fun_ext, ◌∙◌}
 use mathlib.Core.List.{List, [], ◌∷◌}
-use mathlib.Core.Option.{Option, none, some}
 use Prim.Native.Nat.{ℕ, zero, suc, ◌+◌, ◌*◌, ◌≤◌}
 use lib.ListN.{length, get_or}
 use Rattle.types.specs.declared.records.Optional.{Optional}
 use Rattle.types.specs.declared.records.OrderingMode.{OrderingMode}
-use Rattle.reading.specs.declared.numbers.Number.{Number}
-use Rattle.reading.specs.declared.numbers.Number.TheVariants.{Value, NoNumber}
-use Rattle.reading.specs.declared.numbers.Code.{Code}
-use Rattle.reading.specs.declared.numbers.Code.TheVariants.{Bits, NoCode}
-use Rattle.reading.specs.declared.fields.Choice.{Choice}
-use Rattle.reading.specs.declared.fields.Choice.TheVariants.{Chosen, NoChoice}
-use Rattle.reading.specs.declared.lines.Mode.{Mode}
-use Rattle.reading.specs.declared.lines.Mode.TheVariants.{Known, NoMode}
 use Rattle.reading.specs.Numbers.{number_of, code_of}
 use Rattle.reading.specs.Fields.{fields_of, field, letter_of, option_of}
 use Rattle.reading.specs.Lists.{list_of}
@@ -31,40 +23,40 @@ abbrev pub Size : List ℕ → ℕ
 Size f = length (bare 32 f)
 
 module _ {A : Type 0} (d : A) (f : List ℕ) where
-  pub number-else : (F : Number → A) → F NoNumber ≡ d → ((v : ℕ) → Size f ≤ 20 → F (Value v) ≡ d) → F (number_of f) ≡ d
+  pub number-else : (F : Option ℕ → A) → F None ≡ d → ((v : ℕ) → Size f ≤ 20 → F (Some v) ≡ d) → F (number_of f) ≡ d
   number-else F z h = go (number_of f) refl
     where
-      go : (n : Number) → number_of f ≡ n → F n ≡ d
-      go NoNumber e = z
-      go (Value v) e = h v (number_short 32 v f refl e)
+      go : (n : Option ℕ) → number_of f ≡ n → F n ≡ d
+      go None e = z
+      go (Some v) e = h v (number_short 32 v f refl e)
 
-  pub code-else : (F : Code → A) → F NoCode ≡ d → ((v : ℕ) → Size f ≤ 21 → F (Bits v) ≡ d) → F (code_of f) ≡ d
+  pub code-else : (F : Option ℕ → A) → F None ≡ d → ((v : ℕ) → Size f ≤ 21 → F (Some v) ≡ d) → F (code_of f) ≡ d
   code-else F z h = go (code_of f) refl
     where
-      go : (n : Code) → code_of f ≡ n → F n ≡ d
-      go NoCode e = z
-      go (Bits v) e = h v (code-short 32 v f refl e)
+      go : (n : Option ℕ) → code_of f ≡ n → F n ≡ d
+      go None e = z
+      go (Some v) e = h v (code-short 32 v f refl e)
 
-  pub option-else : (F : Choice → A) → F NoChoice ≡ d → ((o : Optional) → Size f ≤ 20 → F (Chosen o) ≡ d) → F (option_of f) ≡ d
+  pub option-else : (F : Option Optional → A) → F None ≡ d → ((o : Optional) → Size f ≤ 20 → F (Some o) ≡ d) → F (option_of f) ≡ d
   option-else F z h = go (option_of f) refl
     where
-      go : (n : Choice) → option_of f ≡ n → F n ≡ d
-      go NoChoice e = z
-      go (Chosen o) e = h o (option-short 32 o f refl e)
+      go : (n : Option Optional) → option_of f ≡ n → F n ≡ d
+      go None e = z
+      go (Some o) e = h o (option-short 32 o f refl e)
 
-  pub mode-else : (F : Mode → A) → F NoMode ≡ d → ((m : OrderingMode) → Size f ≤ 1 → F (Known m) ≡ d) → F (mode_of (letter_of f)) ≡ d
+  pub mode-else : (F : Option OrderingMode → A) → F None ≡ d → ((m : OrderingMode) → Size f ≤ 1 → F (Some m) ≡ d) → F (mode_of (letter_of f)) ≡ d
   mode-else F z h = go (mode_of (letter_of f)) refl
     where
-      go : (n : Mode) → mode_of (letter_of f) ≡ n → F n ≡ d
-      go NoMode e = z
-      go (Known m) e = h m (mode-short 32 m f e)
+      go : (n : Option OrderingMode) → mode_of (letter_of f) ≡ n → F n ≡ d
+      go None e = z
+      go (Some m) e = h m (mode-short 32 m f e)
 
-  pub list-else : (room : ℕ) (F : Option (List ℕ) → A) → F none ≡ d → ((vs : List ℕ) → Size f ≤ 21 * length vs + 1 → length vs ≤ room → F (some vs) ≡ d) → F (list_of room f) ≡ d
+  pub list-else : (room : ℕ) (F : Option (List ℕ) → A) → F None ≡ d → ((vs : List ℕ) → Size f ≤ 21 * length vs + 1 → length vs ≤ room → F (Some vs) ≡ d) → F (list_of room f) ≡ d
   list-else room F z h = go (list_of room f) refl
     where
       go : (o : Option (List ℕ)) → list_of room f ≡ o → F o ≡ d
-      go none e = z
-      go (some vs) e = h vs (list-short 32 room vs f refl e).0 (list-short 32 room vs f refl e).1
+      go None e = z
+      go (Some vs) e = h vs (list-short 32 room vs f refl e).0 (list-short 32 room vs f refl e).1
 
 -- ---- the bytes of a line by its fields
 

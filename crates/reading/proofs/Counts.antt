@@ -1,18 +1,11 @@
--- The fields counted by the spaces: each begins one more. A field of one byte, and an optional field, by their tests.
+-- The fields counted by the spaces: each begins one more. A field of one byte, by its length.
 -- Assumes nothing.
-use mathlib.Core.Path.{◌≡◌, refl, sym, ◌∙◌}
+use mathlib.Core.Path.{◌≡◌, refl}
 use mathlib.Core.List.{List, [], ◌∷◌}
-use Prim.Native.Nat.{ℕ, suc, ◌+◌, ◌-◌, ◌<◌, ◌≤◌}
-use native.Mathlib.Numerals.{add-one}
+use Prim.Native.Nat.{ℕ, ◌+◌, ◌-◌, ◌<◌}
 use native.Mathlib.Omega.{arith}
-use borrow.Author.Tests.{eq-eqb, ne_eqb}
-use lib.ListN.{length, get_or, drop, drop_of_length-le}
-use lib.Seq.{drop-cons}
-use Rattle.reading.specs.declared.numbers.Number.{Number}
-use Rattle.reading.specs.declared.numbers.Number.TheVariants.{Value, NoNumber}
-use Rattle.reading.specs.declared.fields.Choice.TheVariants.{Chosen, NoChoice}
-use Rattle.reading.specs.Numbers.{number_of}
-use Rattle.reading.specs.Fields.{push, split, letter_of, option_of}
+use lib.ListN.{length, get_or}
+use Rattle.reading.specs.Fields.{push, split, letter_of}
 use Rattle.reading.proofs.Parts.{split-first}
 use Rattle.std.specs.List.{count_by}
 use Rattle.std.proofs.lemmas.List.Recursion.{is_count_by}
@@ -54,19 +47,3 @@ unfolding letter_of
 not-one-byte [] l = refl
 not-one-byte (b ∷ []) l = absurd (l refl)
 not-one-byte (b ∷ c ∷ s) l = refl
-
--- ---- an optional field
-
-module _ (f : List ℕ) (b : ℕ) (e : b ≡ letter_of f) where
-  pub absent : b ≡ 45 → Chosen (record { flag = 0; word = 0 }) ≡ option_of f
-  unfolding option_of
-  absent h = rw (eq-eqb (letter_of f) 45 (sym e ∙ h))
-
-  module _ (h : b ≡ 45 → ⊥) where
-    pub unread : (r : Number) → r ≡ number_of f → r ≡ NoNumber → NoChoice ≡ option_of f
-    unfolding option_of
-    unread r k l = rw (ne_eqb (letter_of f) 45 (λ q. h (e ∙ q)), ← k, l)
-
-    pub given : (r : Number) (v : ℕ) → r ≡ number_of f → r ≡ Value v → Chosen (record { flag = 1; word = v }) ≡ option_of f
-    unfolding option_of
-    given r v k l = rw (ne_eqb (letter_of f) 45 (λ q. h (e ∙ q)), ← k, l)

@@ -1,5 +1,6 @@
 -- One byte more of a line, in a buffer: by the tests of the code.
 -- Assumes nothing.
+use Rattle.std.specs.Prelude.{Option, Some, None}
 use mathlib.Core.Path.{◌≡◌, refl, sym, ap, ◌∙◌}
 use mathlib.Core.Bool.{Bool, true, false, ◌&&◌}
 use mathlib.Core.List.{List, [], ◌∷◌, ◌++◌, append_assoc}
@@ -7,24 +8,13 @@ use Prim.Native.Nat.{ℕ, suc, ◌+◌, ◌-◌, ◌<◌, ◌≤◌}
 use native.Mathlib.Numerals.{add-one}
 use native.Mathlib.Omega.{arith}
 use borrow.Author.Tests.{le-leb, lt-leb, eq-eqb, ne_eqb, leb-true}
-use lib.Dec.{eqb, leb}
+use lib.Dec.{leb}
 use lib.ListN.{length, get_or, take, drop, set, length-append}
 use lib.Seq.{length-take-le, get_or-take, take-take, set_split}
-use Rattle.reading.specs.declared.kept.Kept.{Kept}
-use Rattle.reading.specs.declared.kept.Kept.TheVariants.{Bytes, TooLong}
 use Rattle.reading.specs.Numbers.{is_digit}
 use Rattle.reading.specs.Kept.{Buffer, is_edge, lone_zero, keep_byte, after}
 
 -- ---- the byte before a number
-
-pub edge-space : (b : ℕ) → b ≡ 32 → true ≡ is_edge b
-edge-space b h = rw (eq-eqb b 32 h) refl
-
-pub edge-comma : (b : ℕ) → (b ≡ 32 → ⊥) → b ≡ 44 → true ≡ is_edge b
-edge-comma b g h = rw (ne_eqb b 32 g, eq-eqb b 44 h) refl
-
-pub edge-minus : (b : ℕ) → (b ≡ 32 → ⊥) → (b ≡ 44 → ⊥) → eqb b 45 ≡ is_edge b
-edge-minus b g h = rw (ne_eqb b 32 g, ne_eqb b 44 h) refl
 
 -- ---- a single 0
 
@@ -49,15 +39,6 @@ module _ (s : List ℕ) (n : ℕ) (l : n ≤ length s) where
 
 -- ---- a digit behind it
 
-pub not-below : (b : ℕ) (z : Bool) → b < 48 → false ≡ (is_digit b && z)
-not-below b z h = rw (lt-leb 48 b h) refl
-
-pub not-above : (b : ℕ) (z : Bool) → 48 ≤ b → 57 < b → false ≡ (is_digit b && z)
-not-above b z g h = rw (le-leb 48 b g, lt-leb b 57 h) refl
-
-pub digit-then : (b : ℕ) (r z : Bool) → 48 ≤ b → b ≤ 57 → r ≡ z → r ≡ (is_digit b && z)
-digit-then b r z g h e = rw (le-leb 48 b g, le-leb b 57 h) e
-
 right_of : (a b : Bool) → (a && b) ≡ true → b ≡ true
 right_of true b e = e
 right_of false b e = absurd (let z : ◌≡◌ {A = ℕ} 0 1 = cc in omega arith)
@@ -75,23 +56,23 @@ replaced-two s n b r l e k = lone-two s n l (right_of (is_digit b) (lone_zero (t
 
 -- ---- the buffer
 
-abbrev pub Owed : List ℕ → Kept → ℕ → Kept → List ℕ → Type 0
+abbrev pub Owed : List ℕ → Option ℕ → ℕ → Option ℕ → List ℕ → Type 0
 Owed s k b r s' = (r ≡ (after s k b).kept) × (s' ≡ (after s k b).bytes)
 
-owed : (s : List ℕ) (k : Kept) (b : ℕ) (B : Buffer) → after s k b ≡ B → Owed s k b B.kept B.bytes
+owed : (s : List ℕ) (k : Option ℕ) (b : ℕ) (B : Buffer) → after s k b ≡ B → Owed s k b B.kept B.bytes
 owed s k b B e = (ap (λ (x : Buffer). x.kept) (sym e), ap (λ (x : Buffer). x.bytes) (sym e))
 
-pub was-long : (s : List ℕ) (k : Kept) (b : ℕ) → k ≡ TooLong → Owed s k b TooLong s
+pub was-long : (s : List ℕ) (k : Option ℕ) (b : ℕ) → k ≡ None → Owed s k b None s
 unfolding after
-was-long s k b e = owed s k b (record { kept = TooLong; bytes = s }) (rw e refl)
+was-long s k b e = owed s k b (record { kept = None; bytes = s }) (rw e refl)
 
-module _ (s : List ℕ) (k : Kept) (b n : ℕ) (e : k ≡ Bytes n) where
-  pub no_such : length s < n → Owed s k b TooLong s
+module _ (s : List ℕ) (k : Option ℕ) (b n : ℕ) (e : k ≡ Some n) where
+  pub no_such : length s < n → Owed s k b None s
   unfolding after
-  no_such h = owed s k b (record { kept = TooLong; bytes = s }) (rw (e, lt-leb n (length s) h) refl)
+  no_such h = owed s k b (record { kept = None; bytes = s }) (rw (e, lt-leb n (length s) h) refl)
 
   module _ (l : n ≤ length s) (r : Bool) (er : r ≡ (is_digit b && lone_zero (take n s))) where
-    pub replaced : r ≡ true → Owed s k b (Bytes n) (set s (n - 1) b)
+    pub replaced : r ≡ true → Owed s k b (Some n) (set s (n - 1) b)
     unfolding after keep_byte
     replaced t =
         let h : 2 ≤ n = replaced-two s n b r l er t in
@@ -103,23 +84,23 @@ module _ (s : List ℕ) (k : Kept) (b n : ℕ) (e : k ≡ Bytes n) where
         let w : length (take (n - 1) s ++ (b ∷ [])) ≡ n = length-append (take (n - 1) s) (b ∷ []) ∙ rw (length-take-le (n - 1) s p) u in
         let z : (take (n - 1) s ++ (b ∷ [])) ++ drop n s ≡ set s (n - 1) b =
         append_assoc (take (n - 1) s) (b ∷ []) (drop n s) ∙ sym (set_split s (n - 1) b q ∙ rw v refl) in
-        owed s k b (record { kept = Bytes n; bytes = set s (n - 1) b })
+        owed s k b (record { kept = Some n; bytes = set s (n - 1) b })
         (rw (e, le-leb n (length s) l, sym er ∙ t, length-take-le n s l, take-take (n - 1) n s m, w, le-leb n (length s) l, z) refl)
 
     longer : length (take n s ++ (b ∷ [])) ≡ n + 1
     longer = length-append (take n s) (b ∷ []) ∙ rw (length-take-le n s l) refl
 
-    pub full : r ≡ false → n ≡ length s → Owed s k b TooLong s
+    pub full : r ≡ false → n ≡ length s → Owed s k b None s
     unfolding after keep_byte
     full t h =
         let g : length s < n + 1 = omega arith in
-        owed s k b (record { kept = TooLong; bytes = s }) (rw (e, le-leb n (length s) l, sym er ∙ t, longer, lt-leb (n + 1) (length s) g) refl)
+        owed s k b (record { kept = None; bytes = s }) (rw (e, le-leb n (length s) l, sym er ∙ t, longer, lt-leb (n + 1) (length s) g) refl)
 
-    pub added : r ≡ false → (n ≡ length s → ⊥) → Owed s k b (Bytes (n + 1)) (set s n b)
+    pub added : r ≡ false → (n ≡ length s → ⊥) → Owed s k b (Some (n + 1)) (set s n b)
     unfolding after keep_byte
     added t h =
         let g : n + 1 ≤ length s = omega arith in
         let q : n < length s = omega arith in
         let z : (take n s ++ (b ∷ [])) ++ drop (n + 1) s ≡ set s n b =
         append_assoc (take n s) (b ∷ []) (drop (n + 1) s) ∙ sym (set_split s n b q ∙ rw (sym (add-one n)) refl) in
-        owed s k b (record { kept = Bytes (n + 1); bytes = set s n b }) (rw (e, le-leb n (length s) l, sym er ∙ t, longer, le-leb (n + 1) (length s) g, z) refl)
+        owed s k b (record { kept = Some (n + 1); bytes = set s n b }) (rw (e, le-leb n (length s) l, sym er ∙ t, longer, le-leb (n + 1) (length s) g, z) refl)

@@ -1,23 +1,17 @@
 -- Segment lines, return by return: what the definition gives by what the callees answered, and the words that both lists leave.
 -- Assumes nothing.
+use Rattle.std.specs.Prelude.{Option, Some, None}
 use mathlib.Core.Path.{◌≡◌, refl, sym, ap, ◌∙◌}
 use mathlib.Core.Bool.{Bool, true, false, cond}
 use mathlib.Core.List.{List, [], ◌∷◌, ◌++◌, append_assoc, append-nil}
-use mathlib.Core.Option.{Option, none, some}
 use Prim.Native.Nat.{ℕ, zero, suc, ◌+◌, ◌-◌, ◌≤◌}
 use native.Mathlib.Omega.{arith}
 use lib.Dec.{eqb}
 use lib.ListN.{length, take, drop, length-append, length-drop, drop_of_length-le}
 use lib.Seq.{take_at, drop_at, take_all, drop-drop}
 use Rattle.types.specs.declared.records.SegmentInfo.{SegmentInfo}
-use Rattle.reading.specs.declared.numbers.Number.{Number}
-use Rattle.reading.specs.declared.numbers.Number.TheVariants.{Value, NoNumber}
-use Rattle.reading.specs.declared.lists.Listed.{Listed}
-use Rattle.reading.specs.declared.lists.Listed.TheVariants.{Items, NoList}
 use Rattle.reading.specs.declared.lines.Line.{Line}
-use Rattle.reading.specs.declared.lines.Line.TheVariants.{Segment, Unreadable}
-use Rattle.reading.specs.declared.lines.Row.{Row}
-use Rattle.reading.specs.declared.lines.Row.TheVariants.{Words, NoRow}
+use Rattle.reading.specs.declared.lines.Line.TheVariants.{Segment}
 use Rattle.reading.specs.Numbers.{number_of}
 use Rattle.reading.specs.Fields.{fields_of, field, letter_of}
 use Rattle.reading.specs.Lists.{before, numbers_of, items_of, list_of, listed, list_words, filled}
@@ -26,17 +20,17 @@ use Rattle.reading.proofs.Chain.{is, is-not}
 
 -- ---- a list that was measured
 
-pub known : (r : Listed) (o : Option (List ℕ)) (n : ℕ) → r ≡ listed o → r ≡ Items n → o ≡ some (list_words o)
-known r none n e k = absurd (let z : ◌≡◌ {A = ℕ} 0 1 = cc in omega arith)
-known r (some vs) n e k = refl
+pub known : (r : Option ℕ) (o : Option (List ℕ)) (n : ℕ) → r ≡ listed o → r ≡ Some n → o ≡ Some (list_words o)
+known r None n e k = absurd (let z : ◌≡◌ {A = ℕ} 0 1 = cc in omega arith)
+known r (Some vs) n e k = refl
 
-pub measured : (r : Listed) (o : Option (List ℕ)) (n : ℕ) → r ≡ listed o → r ≡ Items n → length (list_words o) ≡ n
-measured r none n e k = absurd (let z : ◌≡◌ {A = ℕ} 0 1 = cc in omega arith)
-measured r (some vs) n e k = cc
+pub measured : (r : Option ℕ) (o : Option (List ℕ)) (n : ℕ) → r ≡ listed o → r ≡ Some n → length (list_words o) ≡ n
+measured r None n e k = absurd (let z : ◌≡◌ {A = ℕ} 0 1 = cc in omega arith)
+measured r (Some vs) n e k = cc
 
-pub unknown : (r : Listed) (o : Option (List ℕ)) → r ≡ listed o → r ≡ NoList → o ≡ none
-unknown r none e k = refl
-unknown r (some vs) e k = absurd (let z : ◌≡◌ {A = ℕ} 0 1 = cc in omega arith)
+pub unknown : (r : Option ℕ) (o : Option (List ℕ)) → r ≡ listed o → r ≡ None → o ≡ None
+unknown r None e k = refl
+unknown r (Some vs) e k = absurd (let z : ◌≡◌ {A = ℕ} 0 1 = cc in omega arith)
 
 numbers_fit : (room : ℕ) (is : List (List ℕ)) → length (list_words (numbers_of room is)) ≤ room
 unfolding numbers_of
@@ -44,43 +38,43 @@ numbers_fit room [] = omega arith
 numbers_fit zero (i ∷ is) = omega arith
 numbers_fit (suc room) (i ∷ is) = go (number_of i) (numbers_of room is) (numbers_fit room is)
   where
-    go : (n : Number) (o : Option (List ℕ)) → length (list_words o) ≤ room → length (list_words (before n o)) ≤ suc room
-    go NoNumber o h = omega arith
-    go (Value v) none h = omega arith
-    go (Value v) (some vs) h = omega arith
+    go : (n : Option ℕ) (o : Option (List ℕ)) → length (list_words o) ≤ room → length (list_words (before n o)) ≤ suc room
+    go None o h = omega arith
+    go (Some v) None h = omega arith
+    go (Some v) (Some vs) h = omega arith
 
 pub list-fits : (room : ℕ) (f : List ℕ) → length (list_words (list_of room f)) ≤ room
 unfolding list_of
 list-fits room f = go (eqb (letter_of f) 45) (numbers_fit room (items_of f))
   where
-    go : (t : Bool) → length (list_words (numbers_of room (items_of f))) ≤ room → length (list_words (cond t (some []) (numbers_of room (items_of f)))) ≤ room
+    go : (t : Bool) → length (list_words (numbers_of room (items_of f))) ≤ room → length (list_words (cond t (Some []) (numbers_of room (items_of f)))) ≤ room
     go true h = omega arith
     go false h = h
 
-pub count_fits : (room : ℕ) (f : List ℕ) (r : Listed) (n : ℕ) → r ≡ listed (list_of room f) → r ≡ Items n → n ≤ room
+pub count_fits : (room : ℕ) (f : List ℕ) (r : Option ℕ) (n : ℕ) → r ≡ listed (list_of room f) → r ≡ Some n → n ≤ room
 count_fits room f r n e k = omega (arith, list-fits room f, measured r (list_of room f) n e k)
 
 -- ---- segment lines
 
 module _ (s : List ℕ) (room n : ℕ) (ne : n ≡ length (fields_of s)) where
-  pub segment-count : (n ≡ 10 → ⊥) → plain Unreadable ≡ segment_line room s
+  pub segment-count : (n ≡ 10 → ⊥) → plain None ≡ segment_line room s
   unfolding segment_line
   segment-count h = is-not n (length (fields_of s)) 10 _ _ _ ne h refl
 
-  module _ (h : n ≡ 10) (r : Listed) (e : r ≡ listed (list_of room (field s 8))) where
-    pub segment-parents : r ≡ NoList → plain Unreadable ≡ segment_line room s
+  module _ (h : n ≡ 10) (r : Option ℕ) (e : r ≡ listed (list_of room (field s 8))) where
+    pub segment-parents : r ≡ None → plain None ≡ segment_line room s
     unfolding segment_line
     segment-parents k = is n (length (fields_of s)) 10 _ _ _ ne h (rw (unknown r (list_of room (field s 8)) e k) refl)
 
-    module _ (p : ℕ) (k : r ≡ Items p) (r' : Listed) (e' : r' ≡ listed (list_of (room - p) (field s 9))) where
-      pub segment-children : r' ≡ NoList → plain Unreadable ≡ segment_line room s
+    module _ (p : ℕ) (k : r ≡ Some p) (r' : Option ℕ) (e' : r' ≡ listed (list_of (room - p) (field s 9))) where
+      pub segment-children : r' ≡ None → plain None ≡ segment_line room s
       unfolding segment_line
       segment-children k' =
           is n (length (fields_of s)) 10 _ _ _ ne h
           (rw (known r (list_of room (field s 8)) p e k, measured r (list_of room (field s 8)) p e k, unknown r' (list_of (room - p) (field s 9)) e' k') refl)
 
-      module _ (c : ℕ) (k' : r' ≡ Items c) (t : Row) (et : t ≡ row_of s p c) where
-        pub segment-row : t ≡ NoRow → plain Unreadable ≡ segment_line room s
+      module _ (c : ℕ) (k' : r' ≡ Some c) (t : Option SegmentInfo) (et : t ≡ row_of s p c) where
+        pub segment-row : t ≡ None → plain None ≡ segment_line room s
         unfolding segment_line
         segment-row kt =
             is n (length (fields_of s)) 10 _ _ _ ne h
@@ -93,8 +87,8 @@ module _ (s : List ℕ) (room n : ℕ) (ne : n ≡ length (fields_of s)) where
               kt,
             ) refl)
 
-        pub segment-read : (info : SegmentInfo) → t ≡ Words info
-            → record { line = Segment info; edges = list_words (list_of room (field s 8)) ++ list_words (list_of (room - p) (field s 9)); history = []; completed = [] }
+        pub segment-read : (info : SegmentInfo) → t ≡ Some info
+            → record { line = Some (Segment info); edges = list_words (list_of room (field s 8)) ++ list_words (list_of (room - p) (field s 9)); history = []; completed = [] }
             ≡ segment_line room s
         unfolding segment_line
         segment-read info kt =
@@ -108,7 +102,7 @@ module _ (s : List ℕ) (room n : ℕ) (ne : n ≡ length (fields_of s)) where
               kt,
             ) refl)
 
-pub segment-out : (R : Read) (w : List ℕ) → plain Unreadable ≡ R → (Unreadable ≡ R.line) × (w ≡ filled w R.edges)
+pub segment-out : (R : Read) (w : List ℕ) → plain None ≡ R → (None ≡ R.line) × (w ≡ filled w R.edges)
 segment-out R w e = (ap (λ (q : Read). q.line) e, ap (λ (q : Read). filled w q.edges) e)
 
 -- ---- one list written behind another
@@ -119,9 +113,6 @@ module _ (W W₁ ps : List ℕ) (p : ℕ) (l : length ps ≡ p) (h : p ≤ lengt
 
   rest-is : drop p W₁ ≡ drop p W
   rest-is = rw e (drop_at ps (drop (length ps) W) p l ∙ rw l refl)
-
-  pub first-length : length W₁ ≡ length W
-  first-length = rw e (length-append ps (drop (length ps) W) ∙ rw (length-drop, l) (omega arith))
 
   part-is : take (length W₁ - p) (drop p W₁) ≡ drop p W
   part-is = take_all (length W₁ - p) (drop p W₁) (rw length-drop (omega arith)) ∙ rest-is
@@ -144,6 +135,6 @@ module _ (W W₁ ps : List ℕ) (p : ℕ) (l : length ps ≡ p) (h : p ≤ lengt
   both-listed f Y k =
       both-written (list_words (list_of (length W - p) f)) Y (k ∙ ap (λ (n : ℕ). filled (take (length W₁ - p) (drop p W₁)) (list_words (list_of n f))) room-left)
 
-pub segment-in : (R : Read) (l : Line) (w w' es : List ℕ) → record { line = l; edges = es; history = []; completed = [] } ≡ R → w' ≡ filled w es
+pub segment-in : (R : Read) (l : Option Line) (w w' es : List ℕ) → record { line = l; edges = es; history = []; completed = [] } ≡ R → w' ≡ filled w es
     → (l ≡ R.line) × (w' ≡ filled w R.edges)
 segment-in R l w w' es e q = (ap (λ (q : Read). q.line) e, q ∙ ap (λ (q : Read). filled w q.edges) e)

@@ -1,15 +1,13 @@
 -- Document 01, "The listing program": one letter and its fields a line, "`-` for absent or none". Exactly one space stands between two
 -- fields, so that two spaces have an empty field between them, and an empty field is unreadable.
 -- Assumes nothing.
-use Rattle.std.specs.Prelude.{ℕ, suc, cond, List, [], ◌∷◌, eqb, get_or}
-use Rattle.reading.specs.declared.numbers.Number.{Number}
-use Rattle.reading.specs.declared.numbers.Number.TheVariants.{Value, NoNumber}
-use Rattle.reading.specs.declared.fields.Choice.{Choice}
-use Rattle.reading.specs.declared.fields.Choice.TheVariants.{Chosen, NoChoice}
+use Rattle.std.specs.Prelude.{ℕ, suc, cond, List, [], ◌∷◌, eqb, get_or, Option, Some, None}
+use Prim.Native.Char.{code}
+use Rattle.types.specs.declared.records.Optional.{Optional}
 use Rattle.reading.specs.Numbers.{minus_byte, number_of}
 
 abbrev pub space_byte : ℕ
-space_byte = 32
+space_byte = code " "
 
 -- the first part is longer by the byte b
 abbrev pub push : ℕ → List (List ℕ) → List (List ℕ)
@@ -39,10 +37,10 @@ letter_of [] = 0
 letter_of (b ∷ []) = b
 letter_of (b ∷ c ∷ s) = 0
 
-abbrev pub present : Number → Choice
-present (Value v) = Chosen (record { flag = 1; word = v })
-present NoNumber = NoChoice
+abbrev pub present : Option ℕ → Option Optional
+present (Some v) = Some (record { flag = 1; word = v })
+present None = None
 
--- `-` or a number
-unfoldable pub option_of : List ℕ → Choice
-option_of f = cond (eqb (letter_of f) minus_byte) (Chosen (record { flag = 0; word = 0 })) (present (number_of f))
+-- `-` or a number; what is neither is None
+unfoldable pub option_of : List ℕ → Option Optional
+option_of f = cond (eqb (letter_of f) minus_byte) (Some (record { flag = 0; word = 0 })) (present (number_of f))

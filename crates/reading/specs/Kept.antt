@@ -1,9 +1,7 @@
 -- Document 01, "The listing program": a number may have leading zeros, any number of them, and a line is read in bounded room. A digit
 -- that comes after a number that so far is a single 0 takes its place, so that a readable line keeps few bytes.
 -- Assumes nothing.
-use Rattle.std.specs.Prelude.{ℕ, Bool, cond, ◌&&◌, ◌||◌, List, [], ◌∷◌, ◌++◌, eqb, leb, length, take, drop, get_or, ◌-◌}
-use Rattle.reading.specs.declared.kept.Kept.{Kept}
-use Rattle.reading.specs.declared.kept.Kept.TheVariants.{Bytes, TooLong}
+use Rattle.std.specs.Prelude.{ℕ, Bool, cond, ◌&&◌, ◌||◌, List, [], ◌∷◌, ◌++◌, eqb, leb, length, take, drop, get_or, ◌-◌, Option, Some, None}
 use Rattle.reading.specs.Numbers.{zero_byte, minus_byte, is_digit}
 use Rattle.reading.specs.Fields.{space_byte}
 use Rattle.reading.specs.Lists.{comma_byte}
@@ -32,16 +30,16 @@ kept_line s = kept_from [] s
 -- ---- in a buffer: how many bytes are kept, and the buffer. A line that finds it full is too long, and changes nothing
 
 pub record Buffer : Type 0 where
-  pub kept : Kept
+  pub kept : Option ℕ
   pub bytes : List ℕ
 
 abbrev pub stored : List ℕ → List ℕ → Buffer
 stored buffer line =
     cond (leb (length line) (length buffer))
-    (record { kept = Bytes (length line); bytes = line ++ drop (length line) buffer })
-    (record { kept = TooLong; bytes = buffer })
+    (record { kept = Some (length line); bytes = line ++ drop (length line) buffer })
+    (record { kept = None; bytes = buffer })
 
-unfoldable pub after : List ℕ → Kept → ℕ → Buffer
-after buffer TooLong b = record { kept = TooLong; bytes = buffer }
-after buffer (Bytes n) b =
-    cond (leb n (length buffer)) (stored buffer (keep_byte (take n buffer) b)) (record { kept = TooLong; bytes = buffer })
+unfoldable pub after : List ℕ → Option ℕ → ℕ → Buffer
+after buffer None b = record { kept = None; bytes = buffer }
+after buffer (Some n) b =
+    cond (leb n (length buffer)) (stored buffer (keep_byte (take n buffer) b)) (record { kept = None; bytes = buffer })

@@ -3,16 +3,8 @@ ghost use Rattle.std.specs.Prelude.{◌≡◌, length};
 ghost use Rattle.reading.specs.Numbers.{number_of, code_of};
 ghost use Rattle.reading.specs.Fields.{fields_of, field, letter_of, option_of};
 
-use crate::numbers::{Code, Number};
 use crate::{numbers, spans};
 use types::records::Optional;
-
-// An optional field.
-#[derive(Clone, Copy)]
-pub enum Choice {
-    Chosen(Optional),
-    NoChoice,
-}
 
 pub fn count_fields(line: &[u8]) -> usize
     ensures { result ≡ length (fields_of line.now) }
@@ -27,51 +19,39 @@ pub fn letter(field: &[u8]) -> u8
     if field.len() == 1 { field[0] } else { 0 }
 }
 
-pub fn read_option(field: &[u8]) -> Choice
+// An optional field: `-` or a number.
+#[tactic(auto, unfolding(crate::specs::Fields::option_of))]
+pub fn read_option(field: &[u8]) -> Option<Optional>
     ensures { result ≡ option_of field.now }
 {
     if letter(field) == b'-' {
-        return Choice::Chosen(Optional { flag: 0, word: 0 });
+        return Some(Optional { flag: 0, word: 0 });
     }
-    let Number::Value(v) = numbers::read_number(field) else {
-        return Choice::NoChoice;
-    };
-    Choice::Chosen(Optional { flag: 1, word: v })
+    let word = numbers::read_number(field)?;
+    Some(Optional { flag: 1, word })
 }
 
 // The fields of a line by their numbers, from 0. A field that is not there reads as an empty one.
 pub fn letter_at(line: &[u8], number: usize) -> u8
     ensures { result ≡ letter_of (field line.now number) }
 {
-    let span = spans::field_at(line, number);
-    let from = span.from;
-    let to = span.to;
-    letter(&line[from..to])
+    letter(spans::field_at(line, number))
 }
 
-pub fn number_at(line: &[u8], number: usize) -> Number
+pub fn number_at(line: &[u8], number: usize) -> Option<u64>
     ensures { result ≡ number_of (field line.now number) }
 {
-    let span = spans::field_at(line, number);
-    let from = span.from;
-    let to = span.to;
-    numbers::read_number(&line[from..to])
+    numbers::read_number(spans::field_at(line, number))
 }
 
-pub fn code_at(line: &[u8], number: usize) -> Code
+pub fn code_at(line: &[u8], number: usize) -> Option<u32>
     ensures { result ≡ code_of (field line.now number) }
 {
-    let span = spans::field_at(line, number);
-    let from = span.from;
-    let to = span.to;
-    numbers::read_code(&line[from..to])
+    numbers::read_code(spans::field_at(line, number))
 }
 
-pub fn option_at(line: &[u8], number: usize) -> Choice
+pub fn option_at(line: &[u8], number: usize) -> Option<Optional>
     ensures { result ≡ option_of (field line.now number) }
 {
-    let span = spans::field_at(line, number);
-    let from = span.from;
-    let to = span.to;
-    read_option(&line[from..to])
+    read_option(spans::field_at(line, number))
 }

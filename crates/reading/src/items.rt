@@ -2,25 +2,21 @@
 ghost use Rattle.std.specs.Prelude.{◌≡◌, length};
 ghost use Rattle.reading.specs.Lists.{items_of, numbers_of, listed, front, filled};
 
-use crate::lists::Listed;
-use crate::numbers::Number;
 use crate::{numbers, spans};
 
-pub fn count_items(field: &[u8], room: usize) -> Listed
+pub fn count_items(field: &[u8], room: usize) -> Option<usize>
     ensures { result ≡ listed (numbers_of room (items_of field.now)) }
 {
     let mut from = 0;
     for n in 0..room {
         let to = spans::end_of(field, from, b',');
-        let Number::Value(_) = numbers::read_number(&field[from..to]) else {
-            return Listed::NoList;
-        };
+        numbers::read_number(&field[from..to])?;
         if to == field.len() {
-            return Listed::Items(n + 1);
+            return Some(n + 1);
         }
         from = to + 1;
     }
-    Listed::NoList
+    None
 }
 
 // Writes up to the first item that is no number.
@@ -30,7 +26,7 @@ pub fn write_items(field: &[u8], words: &mut [u64])
     let mut from = 0;
     for n in 0..words.len() {
         let to = spans::end_of(field, from, b',');
-        let Number::Value(v) = numbers::read_number(&field[from..to]) else {
+        let Some(v) = numbers::read_number(&field[from..to]) else {
             return;
         };
         words[n] = v;

@@ -3,13 +3,6 @@ ghost use Rattle.std.specs.Prelude.{◌≡◌, length, take, ◌&&◌, ◌≤◌
 ghost use Rattle.reading.specs.Numbers.{is_digit};
 ghost use Rattle.reading.specs.Kept.{is_edge, lone_zero, after};
 
-// How many bytes of the buffer hold the line.
-#[derive(Clone, Copy, PartialEq, Eq, Debug)]
-pub enum Kept {
-    Bytes(usize),
-    TooLong,
-}
-
 // What a number can stand behind.
 fn is_edge(b: u8) -> bool
     ensures { result ≡ is_edge b }
@@ -33,23 +26,22 @@ fn replaces(line: &[u8], n: usize, b: u8) -> bool
     b >= b'0' && b <= b'9' && is_lone_zero(line, n)
 }
 
-// One byte more of a line.
-pub fn take_byte(line: &mut [u8], kept: Kept, b: u8) -> Kept
-    ensures { (result ≡ (after line.old kept b).kept) × (line.new ≡ (after line.old kept b).bytes) }
+// One byte more of a line: how many bytes of the buffer hold it now. None: the line is too long for the buffer, and stays so.
+pub fn take_byte(line: &mut [u8], kept: Option<usize>, b: u8) -> Option<usize>
+    ensures count { result ≡ (after line.old kept b).kept }
+    ensures bytes { line.new ≡ (after line.old kept b).bytes }
 {
-    let Kept::Bytes(n) = kept else {
-        return Kept::TooLong;
-    };
+    let n = kept?;
     if line.len() < n {
-        return Kept::TooLong;
+        return None;
     }
     if replaces(line, n, b) {
         line[n - 1] = b;
-        return Kept::Bytes(n);
+        return Some(n);
     }
     if n == line.len() {
-        return Kept::TooLong;
+        return None;
     }
     line[n] = b;
-    Kept::Bytes(n + 1)
+    Some(n + 1)
 }

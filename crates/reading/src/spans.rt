@@ -1,13 +1,6 @@
 // Where the parts of a text stand.
-ghost use Rattle.std.specs.Prelude.{◌≡◌, [], ◌+◌, ◌-◌, ◌≤◌, length, get_or, take, drop};
-ghost use Rattle.reading.specs.Fields.{up_to, fields_of};
-
-// The bytes of a line from one place to another.
-#[derive(Clone, Copy, PartialEq, Eq, Debug)]
-pub struct Span {
-    pub from: usize,
-    pub to: usize,
-}
+ghost use Rattle.std.specs.Prelude.{◌≡◌, ◌+◌, drop};
+ghost use Rattle.reading.specs.Fields.{up_to, field};
 
 // Where the part that begins at `from` ends: before a separator, or at the end.
 pub fn end_of(text: &[u8], from: usize, separator: u8) -> usize
@@ -22,19 +15,17 @@ pub fn end_of(text: &[u8], from: usize, separator: u8) -> usize
 }
 
 // A field by its number, from 0. A field that is not there reads as an empty one.
-pub fn field_at(line: &[u8], number: usize) -> Span
-    ensures { (result.from ≤ result.to) × (result.to ≤ length line.now) × (take (result.to - result.from) (drop result.from line.now) ≡ get_or (fields_of line.now) number []) }
+pub fn field_at(line: &[u8], number: usize) -> &[u8]
+    ensures { result.now ≡ field line.now number }
 {
     let mut from = 0;
-    let mut left = number;
-    while 0 < left {
+    for _ in 0..number {
         let to = end_of(line, from, b' ');
         if to == line.len() {
-            return Span { from: to, to };
+            return &line[to..];
         }
         from = to + 1;
-        left -= 1;
     }
     let to = end_of(line, from, b' ');
-    Span { from, to }
+    &line[from..to]
 }

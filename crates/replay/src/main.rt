@@ -5,6 +5,7 @@
 
 use crate::areas::Difference;
 use crate::reader::Reader;
+use lister::input::Input;
 use std::io;
 
 mod areas;
@@ -101,22 +102,14 @@ fn main(rt: HostRuntime) -> io::Result<()> {
     let mut token = [0u8; 20];
     let mut line = [0u64; 2048];
     let mut counts = [0u64; 73];
-    let mut input = rt.stdin();
-    let mut buffer = [0u8; 4096];
-    let mut n = 0;
-    let mut i = 0;
+    let mut input = Input::new(rt.stdin());
     let mut r = reader::start();
     // no input has as many bytes
     for _ in 0..u64::MAX {
-        let had = n;
-        n = lister::refill(&mut input, &mut buffer, i, had)?;
-        i = lister::place_in(i, had);
-        if n == 0 {
+        let Some(b) = input.next_byte()? else {
             return show(&rt, r, &counts);
-        }
-        let b = lister::byte_at(&buffer, i);
+        };
         r = take(&rt, r, b, &mut token, &mut line, &mut counts)?;
-        i = lister::place_after(i);
     }
     Ok(())
 }

@@ -1,5 +1,5 @@
 // Bytes to the numbers of a line.
-use reading::numbers::{Number, read_number};
+use reading::numbers::read_number;
 
 // Where the reading stands between two bytes.
 #[derive(Clone, Copy)]
@@ -84,17 +84,17 @@ fn put(r: Reader, v: u64, line: &mut [u64]) -> Reader {
     next
 }
 
-fn number_of(token: &[u8], n: usize) -> Number {
+fn number_of(token: &[u8], n: usize) -> Option<u64> {
     if n <= token.len() {
-        return read_number(&token[0..n]);
+        return read_number(&token[..n]);
     }
-    Number::NoNumber
+    None
 }
 
 // The number's end.
 pub fn end_number(r: Reader, token: &[u8], line: &mut [u64]) -> Reader {
     match number_of(token, r.bytes) {
-        Number::Value(v) => put(r, v, line),
-        Number::NoNumber => spoilt(r),
+        Some(v) => put(r, v, line),
+        None => spoilt(r),
     }
 }

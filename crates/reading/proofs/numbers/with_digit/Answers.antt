@@ -1,19 +1,15 @@
 -- `reading::numbers::with_digit` meets its contract, by the tests that lead to each return.
-use Rattle.reading.proofs.Digits.{below-digits, above-digits, too_large, fits}
-use native.Mathlib.Omega.{arith}
+use Rattle.std.proofs.Common.{sym, ◌∙◌}
+use Rattle.reading.proofs.Digits.{no_digit, product-out, sum-in}
 use Rattle.reading.proofs.numbers.with_digit.Goals as goal
 
-pub returns-then-b-lt48 : goal.returns-then-b-lt48
-returns-then-b-lt48 c = below-digits _ _ c.if-b-lt48.true
+pub returns-then-not-is_ascii_digit : goal.returns-then-not-is_ascii_digit
+returns-then-not-is_ascii_digit c = no_digit _ _ (sym c.is_ascii_digit.ensures.value ∙ c.if-not-is_ascii_digit.true)
 
-pub returns-then-b-gt57 : goal.returns-then-b-gt57
-returns-then-b-gt57 c = above-digits _ _ c.if-b-lt48.false c.if-b-gt57.true
-
-pub returns-then-number-gt1844674407370955161 : goal.returns-then-number-gt1844674407370955161
-returns-then-number-gt1844674407370955161 c = too_large _ _ c.if-b-lt48.false c.if-b-gt57.false (omega arith)
-
-pub returns-then-number-digit : goal.returns-then-number-digit
-returns-then-number-digit c = too_large _ _ c.if-b-lt48.false c.if-b-gt57.false (omega arith)
+pub returns-in_err-checked_mul : goal.returns-in_err-checked_mul
+returns-in_err-checked_mul c =
+    c.from_residual.ensures ∙ product-out _ _ (sym c.is_ascii_digit.ensures.value ∙ c.if-not-is_ascii_digit.false) c.in_err-checked_mul.ensures
 
 pub returns : goal.returns
-returns c = fits _ _ c.if-b-lt48.false c.if-b-gt57.false (omega arith)
+returns c =
+    sum-in _ _ _ _ _ (sym c.is_ascii_digit.ensures.value ∙ c.if-not-is_ascii_digit.false) c.in_ok-checked_mul.ensures.1 c.from.ensures c.checked_add.ensures
