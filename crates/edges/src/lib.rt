@@ -4,8 +4,6 @@
 
 ghost use Rattle.std.specs.Prelude.{◌≡◌, ◌+◌, ◌*◌, ◌<◌, ◌≤◌, length};
 ghost use Rattle.words.specs.Table.{ids, where_is, Ascends};
-ghost use Rattle.sorts.specs.Rows.{rows};
-ghost use Rattle.lookups.specs.PairSearch.{Ordered};
 ghost use Rattle.rules.specs.Tables.{held_width, optional, parents_at, children_at, held_segments};
 ghost use Rattle.rules.specs.Edges.{epoch_rule, links_from};
 ghost use Rattle.tabled.specs.Image.{Tabled};
@@ -13,8 +11,10 @@ ghost use Rattle.types.specs.declared.records.Side.TheVariants.{Parents, Childre
 ghost use Rattle.lookups.specs.Sides.{side_of};
 ghost use Rattle.edges.specs.Links.{Tells, dangling, unanswered, epochs_at, edge_at, edge_where, edges_all, row_links};
 
+mod index;
+
+use crate::index::Index;
 use answers::Refusal;
-use lookups::pairs::has_pair;
 use types::records::Side;
 
 // 24 or 27: the segment lists `other`, and no row has that id.
@@ -98,20 +98,17 @@ fn judge_found(
     side: Side,
     table: &[u64],
     n: usize,
-    pairs: &[u64],
-    k: usize,
+    index: &Index,
     i: usize,
     r: usize,
 ) -> Result<(), Refusal>
     requires rows_in_table { n * held_width ≤ length table.now }
     requires both_rows { (i < n) × (r < n) }
-    requires pairs_len { length pairs.now ≡ 3 * k }
-    requires ordered { Ordered (rows pairs.now) }
-    ensures { result ≡ edge_at side table.now pairs.now i r }
+    ensures { result ≡ edge_at side table.now index.now.pairs.now i r }
 {
     let id = table[i * rules::HELD];
     let other = table[r * rules::HELD];
-    if !has_pair(pairs, k, other, id) {
+    if !index.has_pair(other, id) {
         return Err(unanswered(side, id, other));
     }
     judge_epochs_at(side, table, n, i, r)
@@ -122,20 +119,17 @@ fn judge_edge(
     side: Side,
     table: &[u64],
     n: usize,
-    pairs: &[u64],
-    k: usize,
+    index: &Index,
     i: usize,
     other: u64,
 ) -> Result<(), Refusal>
     requires rows_in_table { n * held_width ≤ length table.now }
     requires i_lt_n { i < n }
     requires ascends { Ascends (ids table.now held_width n) }
-    requires pairs_len { length pairs.now ≡ 3 * k }
-    requires ordered { Ordered (rows pairs.now) }
-    ensures { result ≡ edge_where side table.now pairs.now i other (where_is (ids table.now held_width n) other) }
+    ensures { result ≡ edge_where side table.now index.now.pairs.now i other (where_is (ids table.now held_width n) other) }
 {
     match words::find_row(table, rules::HELD, n, other) {
-        Some(r) => judge_found(side, table, n, pairs, k, i, r),
+        Some(r) => judge_found(side, table, n, index, i, r),
         None => Err(dangling(side, table[i * rules::HELD], other)),
     }
 }
@@ -145,20 +139,17 @@ fn judge_list(
     side: Side,
     table: &[u64],
     n: usize,
-    pairs: &[u64],
-    k: usize,
+    index: &Index,
     i: usize,
     list: &[u64],
 ) -> Result<(), Refusal>
     requires rows_in_table { n * held_width ≤ length table.now }
     requires i_lt_n { i < n }
     requires ascends { Ascends (ids table.now held_width n) }
-    requires pairs_len { length pairs.now ≡ 3 * k }
-    requires ordered { Ordered (rows pairs.now) }
-    ensures { result ≡ edges_all side table.now n pairs.now i list.now }
+    ensures { result ≡ edges_all side table.now n index.now.pairs.now i list.now }
 {
     for &other in list {
-        judge_edge(side, table, n, pairs, k, i, other)?;
+        judge_edge(side, table, n, index, i, other)?;
     }
     Ok(())
 }
@@ -169,10 +160,8 @@ fn judge_row(
     table: &[u64],
     edges: &[u64],
     n: usize,
-    cpairs: &[u64],
-    kc: usize,
-    ppairs: &[u64],
-    kp: usize,
+    children: &Index,
+    parents: &Index,
     i: usize,
     at: usize,
 ) -> Result<(), Refusal>
@@ -181,15 +170,13 @@ fn judge_row(
     requires ascends { Ascends (ids table.now held_width n) }
     requires edges_in_table { at + parents_at table.now (i * held_width) + children_at table.now (i * held_width)
         ≤ length edges.now }
-    requires children_paired { (length cpairs.now ≡ 3 * kc) × Ordered (rows cpairs.now) }
-    requires parents_paired { (length ppairs.now ≡ 3 * kp) × Ordered (rows ppairs.now) }
-    ensures { result ≡ row_links table.now edges.now n cpairs.now ppairs.now i at }
+    ensures { result ≡ row_links table.now edges.now n children.now.pairs.now parents.now.pairs.now i at }
 {
     let w = i * rules::HELD;
     let mid = at + table[w + rules::PARENTS] as usize;
     let end = mid + table[w + rules::CHILDREN] as usize;
-    judge_list(Side::Parents, table, n, cpairs, kc, i, &edges[at..mid])?;
-    judge_list(Side::Children, table, n, ppairs, kp, i, &edges[mid..end])
+    judge_list(Side::Parents, table, n, children, i, &edges[at..mid])?;
+    judge_list(Side::Children, table, n, parents, i, &edges[mid..end])
 }
 
 // 24 to 27 over a table ascending by id. The indexes tell of each segment's children and of its parents.
@@ -207,9 +194,17 @@ pub fn judge_links(
     requires parents_told { Tells (side_of Parents) (held_segments table.now edges.now n) ppairs.now kp }
     ensures { result ≡ links_from (held_segments table.now edges.now n) (held_segments table.now edges.now n) }
 {
+    let children = Index {
+        pairs: cpairs,
+        count: kc,
+    };
+    let parents = Index {
+        pairs: ppairs,
+        count: kp,
+    };
     let mut at = 0;
     for i in 0..n {
-        judge_row(table, edges, n, cpairs, kc, ppairs, kp, i, at)?;
+        judge_row(table, edges, n, &children, &parents, i, at)?;
         let w = i * rules::HELD;
         at = at + table[w + rules::PARENTS] as usize + table[w + rules::CHILDREN] as usize;
     }

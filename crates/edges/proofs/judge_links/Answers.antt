@@ -13,7 +13,7 @@ loop-i-init c =
 pub judge_row-requires : goal.judge_row-requires
 judge_row-requires c =
     let below : c.loop-i.i < c.args.n = omega arith in
-    record { rows_in_table = omega (arith, c.requires.tabled.size); i_lt_n = below; ascends = c.requires.tabled.up; edges_in_table = row_room c.args.table.now c.args.edges.now c.args.n c.requires.tabled c.loop-i.i c.loop-i.at c.loop-i.invariant.1 below; children_paired = (c.requires.children_told.size, c.requires.children_told.order); parents_paired = (c.requires.parents_told.size, c.requires.parents_told.order) }
+    record { rows_in_table = omega (arith, c.requires.tabled.size); i_lt_n = below; ascends = c.requires.tabled.up; edges_in_table = row_room c.args.table.now c.args.edges.now c.args.n c.requires.tabled c.loop-i.i c.loop-i.at c.loop-i.invariant.1 below }
 
 pub returns-in_err-judge_row : goal.returns-in_err-judge_row
 returns-in_err-judge_row c =

@@ -6,4 +6,4 @@ use Rattle.edges.proofs.judge_list.Given as goal
 
 abbrev pub invariant-loop-other : goal.invariant-loop-other
 invariant-loop-other l =
-    edges_all l.side l.table l.n l.pairs l.i l.list ≡ edges_all l.side l.table l.n l.pairs l.i (drop l.other-index l.list)
+    edges_all l.side l.table l.n l.index.pairs.now l.i l.list ≡ edges_all l.side l.table l.n l.index.pairs.now l.i (drop l.other-index l.list)
