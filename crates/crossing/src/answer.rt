@@ -7,7 +7,7 @@ use answers::{Eligibility, Ordering, Refusal, RefusalWords};
 // What an ordering query answers. `outcome`: 0 refused, 1 blocked, 2 eligible, 3 broker-managed; `first`, `second`: how many ids the two
 // lists hold at their front, 51's among them; `read`: parent references read.
 #[repr(C)]
-#[derive(Clone, Copy)]
+#[derive(Clone, Copy, PartialEq, Eq, Debug)]
 pub struct OrderingWords {
     pub outcome: u64,
     pub refusal: RefusalWords,

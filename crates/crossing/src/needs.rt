@@ -8,7 +8,7 @@ const GREATEST: u64 = 18446744073709551615;
 
 // Words of each area of an update; the first four, with no held row, are those of the judge.
 #[repr(C)]
-#[derive(Clone, Copy)]
+#[derive(Clone, Copy, PartialEq, Eq, Debug)]
 pub struct UpdateNeeds {
     pub work: u64,
     pub held: u64,
@@ -22,7 +22,7 @@ pub struct UpdateNeeds {
 
 // Words of each area of an ordering query.
 #[repr(C)]
-#[derive(Clone, Copy)]
+#[derive(Clone, Copy, PartialEq, Eq, Debug)]
 pub struct OrderingNeeds {
     pub work: u64,
     pub first: u64,

@@ -54,7 +54,8 @@ impl<'a> Held<'a> {
 
     // The row of a segment.
     pub fn find(&self, id: SegmentId) -> Option<RowIndex>
-        ensures { option_map (λ row. row.0) result ≡ where_is (ids self.now.rows.now held_width self.now.count) id.0 }
+        ensures { option_map (λ row. row.0) result
+            ≡ where_is (ids self.now.rows.now held_width self.now.count) id.0 }
     {
         match words::find_row(self.rows, rules::HELD, self.count, id.0) {
             Some(row) => Some(RowIndex(row)),

@@ -12,7 +12,8 @@ fn stands_at(rows: &[u64], width: usize, count: usize, id: u64, at: usize) -> bo
 
 // Are the rows before row `at` below this id? Ids ascend, so the last of them tells.
 fn is_past(rows: &[u64], width: usize, count: usize, id: u64, at: usize) -> bool
-    requires { (0 < width) × (count * width ≤ length rows.now) × Ascends (ids rows.now width count) × (at ≤ count) }
+    requires { (0 < width) × (count * width ≤ length rows.now) × Ascends (ids rows.now width count)
+        × (at ≤ count) }
     ensures { result ≡ true → (k : ℕ) → k < at → slice_index (ids rows.now width count) k < id }
 {
     at == 0 || rows[(at - 1) * width] < id
@@ -20,7 +21,8 @@ fn is_past(rows: &[u64], width: usize, count: usize, id: u64, at: usize) -> bool
 
 // Are the rows from row `at` on above it? The first of them tells.
 fn is_short_of(rows: &[u64], width: usize, count: usize, id: u64, at: usize) -> bool
-    requires { (0 < width) × (count * width ≤ length rows.now) × Ascends (ids rows.now width count) × (at ≤ count) }
+    requires { (0 < width) × (count * width ≤ length rows.now) × Ascends (ids rows.now width count)
+        × (at ≤ count) }
     ensures { result ≡ true → (k : ℕ) → at ≤ k → k < count → id < slice_index (ids rows.now width count) k }
 {
     at == count || id < rows[at * width]

@@ -2,7 +2,7 @@
 ghost use Rattle.std.specs.Prelude.{◌≡◌, length};
 ghost use Rattle.rules.specs.Ordering.{query, ordering_of, first_after, second_after, order_work_after};
 ghost use Rattle.crossing.specs.Told.{ordering_words};
-ghost use Rattle.host.specs.Mode.{mode_of};
+ghost use Rattle.host.specs.Mode.{mode_of, lent};
 
 use crossing::answer::OrderingWords;
 use held::HeldTables;
@@ -33,10 +33,18 @@ pub extern "C" fn threshpetal_ordering_eligibility(
     first: &mut [u64],
     second: &mut [u64],
 ) -> OrderingWords
-    ensures value { result ≡ ordering_words (ordering_of (query rows.now edges.now h g (mode_of managed) segment history.now completed.now (record { work = length work.old; first = first.old; second = second.old }))) }
-    ensures first_after { first.new ≡ first_after (query rows.now edges.now h g (mode_of managed) segment history.now completed.now (record { work = length work.old; first = first.old; second = second.old })) first.old }
-    ensures second_after { second.new ≡ second_after (query rows.now edges.now h g (mode_of managed) segment history.now completed.now (record { work = length work.old; first = first.old; second = second.old })) second.old }
-    ensures work_value { work.new ≡ order_work_after (query rows.now edges.now h g (mode_of managed) segment history.now completed.now (record { work = length work.old; first = first.old; second = second.old })) work.old }
+    ensures value { result ≡ ordering_words (ordering_of
+        (query rows.now edges.now h g (mode_of managed) segment history.now completed.now
+        (lent (length work.old) first.old second.old))) }
+    ensures first_after { first.new ≡ first_after
+        (query rows.now edges.now h g (mode_of managed) segment history.now completed.now
+        (lent (length work.old) first.old second.old)) first.old }
+    ensures second_after { second.new ≡ second_after
+        (query rows.now edges.now h g (mode_of managed) segment history.now completed.now
+        (lent (length work.old) first.old second.old)) second.old }
+    ensures work_value { work.new ≡ order_work_after
+        (query rows.now edges.now h g (mode_of managed) segment history.now completed.now
+        (lent (length work.old) first.old second.old)) work.old }
 {
     let tables = HeldTables {
         rows,

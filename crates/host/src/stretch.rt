@@ -20,7 +20,9 @@ pub struct Stretch {
 
 // Parents or children: the ids from `start` on, `length` of them, and they lie within the held edges.
 fn find_stretch(tables: &HeldTables, side: Side, segment: u64) -> Stretch
-    ensures value { result ≡ span side tables.now.rows.now tables.now.edges.now tables.now.count tables.now.edge_count segment }
+    ensures value { result
+        ≡ span side tables.now.rows.now tables.now.edges.now tables.now.count
+        tables.now.edge_count segment }
     ensures stretch { part tables.now.edges.now result.start result.length ≡ stretch_of side tables.now segment }
     ensures within { result.start + result.length ≤ tables.now.edge_count }
 {

@@ -9,8 +9,8 @@ use types::records::{SegmentId, Side};
 // 1, 50, or where they stand.
 pub fn find_span(tables: &HeldTables, side: Side, id: SegmentId) -> Result<Span, Refusal>
     ensures value { result ≡ span_rule side tables.now id.0 }
-    ensures within { IfOk result (λ span.
-        (span.start + span.length ≤ tables.now.edge_count) × (tables.now.edge_count ≤ length tables.now.edges.now)) }
+    ensures within { IfOk result
+        (λ span. (span.start + span.length ≤ tables.now.edge_count) × (tables.now.edge_count ≤ length tables.now.edges.now)) }
 {
     let held = Held::new(tables)?;
     match held.find(id) {

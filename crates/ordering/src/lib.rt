@@ -26,12 +26,18 @@ pub fn ordering_eligibility(
     work: &mut [u64],
     lists: &mut Lists,
 ) -> Ordering
-    ensures value { result ≡ ordering_of (asked tables.now mode segment.0 history.now (lent_of work.old lists.old)) }
-    ensures first_after { lists.new.first.now ≡
-        first_after (asked tables.now mode segment.0 history.now (lent_of work.old lists.old)) lists.old.first.now }
-    ensures second_after { lists.new.second.now ≡
-        second_after (asked tables.now mode segment.0 history.now (lent_of work.old lists.old)) lists.old.second.now }
-    ensures work_after { work.new ≡ order_work_after (asked tables.now mode segment.0 history.now (lent_of work.old lists.old)) work.old }
+    ensures value { result
+        ≡ ordering_of (asked tables.now mode segment.0 history.now (lent_of work.old lists.old)) }
+    ensures first_after { lists.new.first.now
+        ≡ first_after (asked tables.now mode segment.0 history.now (lent_of work.old lists.old))
+        lists.old.first.now }
+    ensures second_after { lists.new.second.now
+        ≡ second_after
+        (asked tables.now mode segment.0 history.now (lent_of work.old lists.old))
+        lists.old.second.now }
+    ensures work_after { work.new
+        ≡ order_work_after
+        (asked tables.now mode segment.0 history.now (lent_of work.old lists.old)) work.old }
     ensures same { SameLists lists.old lists.new }
 {
     let Ok(held) = Held::new(tables) else {

@@ -42,7 +42,8 @@ fn raise_all(w: &mut [u64], ids: MarkedIds, list: &[u64], from: u64, to: u64)
 // For each id: 0 never owned, 1 owned and not completed, 2 owned and completed.
 pub fn mark_owned(w: &mut [u64], ids: MarkedIds, history: &History)
     requires { (ids.marks + ids.count ≤ length w.old) × Ascends (part w.old ids.from ids.count) }
-    ensures { Marked (status_of history.now.owned.now history.now.completed.now) ids.from ids.marks ids.count w.old w.new }
+    ensures { Marked (status_of history.now.owned.now history.now.completed.now) ids.from ids.marks
+        ids.count w.old w.new }
 {
     words::clear(&mut w[ids.marks..ids.marks + ids.count]);
     raise_all(w, ids, history.owned, 0, 1);

@@ -38,7 +38,8 @@ fn root_mark(held: &Held, x: u64, at: usize) -> u64
 // A mark for each of the ids. They ascend as the rows do, so both are passed once.
 pub fn mark_roots(held: &Held, w: &mut [u64], ids: MarkedIds)
     requires { ids.marks + ids.count ≤ length w.old }
-    ensures { Marked (λ (x : ℕ). tick (root_of held.now.rows.now held.now.count x)) ids.from ids.marks ids.count w.old w.new }
+    ensures { Marked (λ (x : ℕ). tick (root_of held.now.rows.now held.now.count x)) ids.from ids.marks
+        ids.count w.old w.new }
 {
     let mut at = 0;
     for i in 0..ids.count {

@@ -17,8 +17,8 @@ use types::records::OrderingMode;
 // Every ancestor must have been owned and completed here. Marks: 0 never owned, 1 owned and not completed.
 fn answer_strict(id: u64, w: &[u64], ids: MarkedIds, first: &mut [u64]) -> Eligibility
     requires { (ids.marks + ids.count ≤ length w.now) × (ids.count ≤ length first.old) }
-    ensures { (l : List ℕ)
-        → Told (open_answer Strict id (with_mark w.now ids.from ids.marks 0 ids.count) (with_mark w.now ids.from ids.marks 1 ids.count))
+    ensures { (l : List ℕ) → Told
+        (open_answer Strict id (with_mark w.now ids.from ids.marks 0 ids.count) (with_mark w.now ids.from ids.marks 1 ids.count))
         (Ok result) first.old first.new l l }
 {
     let remote = owned::by_mark::list_marked(w, ids, 0, first);
@@ -43,8 +43,10 @@ fn answer_managed(
     first: &mut [u64],
     second: &mut [u64],
 ) -> Eligibility
-    requires { (ids.marks + ids.count ≤ length w.now) × (ids.count ≤ length first.old) × (ids.count ≤ length second.old) }
-    ensures { Told (open_answer BrokerManaged id (with_mark w.now ids.from ids.marks 0 ids.count) (with_mark w.now ids.from ids.marks 1 ids.count))
+    requires { (ids.marks + ids.count ≤ length w.now) × (ids.count ≤ length first.old)
+        × (ids.count ≤ length second.old) }
+    ensures { Told
+        (open_answer BrokerManaged id (with_mark w.now ids.from ids.marks 0 ids.count) (with_mark w.now ids.from ids.marks 1 ids.count))
         (Ok result) first.old first.new second.old second.new }
 {
     let remote = owned::by_mark::list_marked(w, ids, 0, second);
@@ -66,8 +68,10 @@ fn answer_open(
     first: &mut [u64],
     second: &mut [u64],
 ) -> Eligibility
-    requires { (ids.marks + ids.count ≤ length w.now) × (ids.count ≤ length first.old) × (ids.count ≤ length second.old) }
-    ensures { Told (open_answer mode id (with_mark w.now ids.from ids.marks 0 ids.count) (with_mark w.now ids.from ids.marks 1 ids.count))
+    requires { (ids.marks + ids.count ≤ length w.now) × (ids.count ≤ length first.old)
+        × (ids.count ≤ length second.old) }
+    ensures { Told
+        (open_answer mode id (with_mark w.now ids.from ids.marks 0 ids.count) (with_mark w.now ids.from ids.marks 1 ids.count))
         (Ok result) first.old first.new second.old second.new }
 {
     match mode {
@@ -79,8 +83,11 @@ fn answer_open(
 // The pruned roots among the segment and its ancestors, at the front of the list. A segment that is one has no ancestors.
 fn list_pruned(held: &Held, id: u64, w: &mut [u64], ids: MarkedIds, first: &mut [u64]) -> usize
     requires { (ids.marks + ids.count ≤ length w.old) × (ids.count < length first.old) }
-    ensures first_after { first.new ≡ front (pruned_in held.now.rows.now held.now.count id (part w.old ids.from ids.count)) first.old }
-    ensures value { result ≡ length (pruned_in held.now.rows.now held.now.count id (part w.old ids.from ids.count)) }
+    ensures first_after { first.new
+        ≡ front (pruned_in held.now.rows.now held.now.count id (part w.old ids.from ids.count))
+        first.old }
+    ensures value { result
+        ≡ length (pruned_in held.now.rows.now held.now.count id (part w.old ids.from ids.count)) }
     ensures before_the_marks { take ids.marks w.new ≡ take ids.marks w.old }
 {
     if owned::roots::is_root(held, id, 0) {

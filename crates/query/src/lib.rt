@@ -30,8 +30,9 @@ fn ask_row(
     requires row { (row.0 < held.now.count) × (get_or held.now.rows.now (row.0 * held_width) 0 ≡ id) }
     requires room { HasRoom held.now (length work.old) lists.old }
     ensures same { SameLists lists.old lists.new }
-    ensures replied { Replied (ordering (segments_of held.now) mode id history.now.owned.now history.now.completed.now) result
-        lists.old.first.now lists.new.first.now lists.old.second.now lists.new.second.now }
+    ensures replied { Replied
+        (ordering (segments_of held.now) mode id history.now.owned.now history.now.completed.now)
+        result lists.old.first.now lists.new.first.now lists.old.second.now lists.new.second.now }
 {
     let g = held.edges.len();
     let from = 4 * held.count + 4 * g;
@@ -69,8 +70,9 @@ pub fn ask_held(
 ) -> Ordering
     requires room { HasRoom held.now (length work.old) lists.old }
     ensures same { SameLists lists.old lists.new }
-    ensures replied { Replied (ordering (segments_of held.now) mode segment.0 history.now.owned.now history.now.completed.now) result
-        lists.old.first.now lists.new.first.now lists.old.second.now lists.new.second.now }
+    ensures replied { Replied
+        (ordering (segments_of held.now) mode segment.0 history.now.owned.now history.now.completed.now)
+        result lists.old.first.now lists.new.first.now lists.old.second.now lists.new.second.now }
 {
     match held.find(segment) {
         Some(row) => ask_row(held, mode, segment.0, row, history, work, lists),

@@ -9,6 +9,9 @@ use Rattle.words.specs.Part.{part}
 use Rattle.words.specs.Table.{ids, where_is, Found, At, Nothing}
 use Rattle.rules.specs.Tables.{held_width, start_of, held_segments}
 use Rattle.rules.specs.Ancestors.{Ancestor, references_read}
+use Rattle.tabled.specs.Image.{segment_in}
+use Rattle.held.specs.declared.Held.{Held}
+use Rattle.walk.specs.declared.climb.Tally.{Tally}
 use Rattle.walk.specs.declared.climb.Walked.{Walked}
 
 -- a mark for each row, the rows met, and the ids read that have no row
@@ -59,6 +62,17 @@ bare_in n k w = ids (drop (3 * n) w) 3 k
 
 abbrev pub met_in : ℕ → ℕ → ℕ → List ℕ → Met
 met_in n len k w = met (marks_in n w) (list_in n len w) (bare_in n k w)
+
+-- the same of held tables and what was counted
+abbrev pub met_of : Held → Tally → List ℕ → Met
+met_of held t w = met_in held.count t.met t.bare w
+
+-- the ids of the rows, and the parents of row r
+abbrev pub table_of : Held → List ℕ
+table_of held = ids held.rows.now held_width held.count
+
+abbrev pub parents_of : Held → ℕ → List ℕ
+parents_of held r = (segment_in held.rows.now held.edges.now r).parents
 
 -- the words at the front say where the edges of each of the n rows begin
 abbrev pub StartsIn : List ℕ → ℕ → List ℕ → Type 0

@@ -1,9 +1,7 @@
 // The walk: rows met once, and every parent reference of a row met is read. Where it keeps its words in the work area is said in specs/.
 ghost use Rattle.std.specs.Prelude.{◌≡◌, cond, ◌+◌, ◌*◌, ◌<◌, ◌≤◌, eqb, length, get_or, set, take, replicate};
-ghost use Rattle.words.specs.Table.{ids};
 ghost use Rattle.rules.specs.Tables.{held_width, parents_at};
-ghost use Rattle.tabled.specs.Image.{segment_in};
-ghost use Rattle.walk.specs.Met.{MetOnce, meet, meet_all, met_in, marks_in, StartsIn, Climbed};
+ghost use Rattle.walk.specs.Met.{MetOnce, meet, meet_all, met_of, table_of, parents_of, marks_in, StartsIn, Climbed};
 
 use crate::{noting, starts};
 use held::Held;
@@ -12,7 +10,8 @@ use types::records::RowIndex;
 // Where the edges of each row begin, and no row met.
 pub fn prepare(held: &Held, w: &mut [u64])
     requires { 2 * held.now.count ≤ length w.old }
-    ensures { StartsIn held.now.rows.now held.now.count w.new × (marks_in held.now.count w.new ≡ replicate held.now.count 0) }
+    ensures { StartsIn held.now.rows.now held.now.count w.new
+        × (marks_in held.now.count w.new ≡ replicate held.now.count 0) }
 {
     let n = held.count;
     starts::fill_starts(held, w);
@@ -38,7 +37,9 @@ pub struct Walked {
 fn add_row(n: usize, r: usize, len: usize, w: &mut [u64]) -> usize
     requires row { (r < n) × (3 * n ≤ length w.old) }
     requires room { get_or w.old (n + r) 0 ≡ 0 → len < n }
-    ensures w_after { w.new ≡ cond (eqb (get_or w.old (n + r) 0) 0) (set (set w.old (n + r) 1) (2 * n + len) r) (set w.old (n + r) 1) }
+    ensures w_after { w.new
+        ≡ cond (eqb (get_or w.old (n + r) 0) 0) (set (set w.old (n + r) 1) (2 * n + len) r)
+        (set w.old (n + r) 1) }
     ensures value { result ≡ cond (eqb (get_or w.old (n + r) 0) 0) (len + 1) len }
 {
     let mark = w[n + r];
@@ -53,10 +54,10 @@ fn add_row(n: usize, r: usize, len: usize, w: &mut [u64]) -> usize
 // The parent p is read; the hint says where its row may be.
 fn meet_parent(held: &Held, p: u64, at: usize, t: Tally, w: &mut [u64]) -> Tally
     requires { (t.met ≤ held.now.count) × (3 * held.now.count + 3 * t.bare < length w.old)
-        × MetOnce held.now.count (met_in held.now.count t.met t.bare w.old) }
-    ensures { (met_in held.now.count result.met result.bare w.new
-        ≡ meet (ids held.now.rows.now held_width held.now.count) p (met_in held.now.count t.met t.bare w.old))
-        × (result.met ≤ held.now.count) × (result.bare ≤ t.bare + 1) × (take held.now.count w.new ≡ take held.now.count w.old) }
+        × MetOnce held.now.count (met_of held.now t w.old) }
+    ensures { (met_of held.now result w.new ≡ meet (table_of held.now) p (met_of held.now t w.old))
+        × (result.met ≤ held.now.count) × (result.bare ≤ t.bare + 1)
+        × (take held.now.count w.new ≡ take held.now.count w.old) }
 {
     let n = held.count;
     let found = hints::near::find_near(held.rows, rules::HELD, n, p, at);
@@ -90,11 +91,11 @@ fn hint_at(w: &[u64], noted: bool, at: usize) -> usize
 
 // The parents of one row are read. Their hints, if noted, stand from word b on.
 fn meet_parents(held: &Held, parents: &[u64], b: usize, t: Tally, w: &mut [u64]) -> Tally
-    requires met { (t.met ≤ held.now.count) × (3 * held.now.count + 3 * (t.bare + length parents.now) ≤ length w.old)
-        × MetOnce held.now.count (met_in held.now.count t.met t.bare w.old) }
+    requires met { (t.met ≤ held.now.count)
+        × (3 * held.now.count + 3 * (t.bare + length parents.now) ≤ length w.old)
+        × MetOnce held.now.count (met_of held.now t w.old) }
     requires hints { b + length parents.now ≤ length w.old }
-    ensures { (met_in held.now.count result.met result.bare w.new
-        ≡ meet_all (ids held.now.rows.now held_width held.now.count) parents.now (met_in held.now.count t.met t.bare w.old))
+    ensures { (met_of held.now result w.new ≡ meet_all (table_of held.now) parents.now (met_of held.now t w.old))
         × (result.met ≤ held.now.count) × (take held.now.count w.new ≡ take held.now.count w.old) }
 {
     let mut l = t;
@@ -109,12 +110,11 @@ fn meet_parents(held: &Held, parents: &[u64], b: usize, t: Tally, w: &mut [u64])
 fn expand(held: &Held, r: usize, t: Tally, w: &mut [u64]) -> Tally
     requires row { (r < held.now.count) × StartsIn held.now.rows.now held.now.count w.old }
     requires met { (t.met ≤ held.now.count)
-        × (3 * held.now.count + 3 * (t.bare + parents_at held.now.rows.now (r * held_width)) ≤ length w.old)
-        × MetOnce held.now.count (met_in held.now.count t.met t.bare w.old) }
+        ×
+        (3 * held.now.count + 3 * (t.bare + parents_at held.now.rows.now (r * held_width)) ≤ length w.old)
+        × MetOnce held.now.count (met_of held.now t w.old) }
     requires room { 32 * (length held.now.edges.now + held.now.count) ≤ length w.old }
-    ensures { (met_in held.now.count result.met result.bare w.new
-        ≡ meet_all (ids held.now.rows.now held_width held.now.count)
-        (segment_in held.now.rows.now held.now.edges.now r).parents (met_in held.now.count t.met t.bare w.old))
+    ensures { (met_of held.now result w.new ≡ meet_all (table_of held.now) (parents_of held.now r) (met_of held.now t w.old))
         × (result.met ≤ held.now.count) × (take held.now.count w.new ≡ take held.now.count w.old) }
 {
     let from = w[r] as usize;
@@ -128,11 +128,9 @@ fn visit(held: &Held, r: usize, read: usize, t: Tally, w: &mut [u64]) -> Tally
     requires row { (r < held.now.count) × StartsIn held.now.rows.now held.now.count w.old }
     requires met { (t.met ≤ held.now.count) × (t.bare ≤ read)
         × (read + parents_at held.now.rows.now (r * held_width) ≤ length held.now.edges.now)
-        × MetOnce held.now.count (met_in held.now.count t.met t.bare w.old) }
+        × MetOnce held.now.count (met_of held.now t w.old) }
     requires room { 32 * (length held.now.edges.now + held.now.count) ≤ length w.old }
-    ensures { (met_in held.now.count result.met result.bare w.new
-        ≡ meet_all (ids held.now.rows.now held_width held.now.count)
-        (segment_in held.now.rows.now held.now.edges.now r).parents (met_in held.now.count t.met t.bare w.old))
+    ensures { (met_of held.now result w.new ≡ meet_all (table_of held.now) (parents_of held.now r) (met_of held.now t w.old))
         × (result.met ≤ held.now.count) × (take held.now.count w.new ≡ take held.now.count w.old) }
 {
     let met = t.met;
@@ -146,7 +144,8 @@ fn visit(held: &Held, r: usize, read: usize, t: Tally, w: &mut [u64]) -> Tally
 pub fn climb(held: &Held, a: usize, w: &mut [u64]) -> Walked
     requires row { a < held.now.count }
     requires room { (32 * (length held.now.edges.now + held.now.count) ≤ length w.old)
-        × StartsIn held.now.rows.now held.now.count w.old × (marks_in held.now.count w.old ≡ replicate held.now.count 0) }
+        × StartsIn held.now.rows.now held.now.count w.old
+        × (marks_in held.now.count w.old ≡ replicate held.now.count 0) }
     ensures { Climbed held.now.rows.now held.now.edges.now held.now.count a w.new result }
 {
     let n = held.count;

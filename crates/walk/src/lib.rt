@@ -25,7 +25,8 @@ pub struct Ancestry {
 // The ancestors of the segment of this row, ascending, stand from word 4 n + 4 g on, where g is the number of edge words. Those with a row
 // are listed by a scan of the marks; only ids without a row are sorted, and an accepted layout has none.
 pub fn ancestors_of(held: &Held, row: RowIndex, w: &mut [u64]) -> Ancestry
-    requires { (row.0 < held.now.count) × (32 * (length held.now.edges.now + held.now.count) ≤ length w.old) }
+    requires { (row.0 < held.now.count)
+        × (32 * (length held.now.edges.now + held.now.count) ≤ length w.old) }
     ensures { Listed held.now.rows.now held.now.edges.now held.now.count row.0
         (4 * held.now.count + 4 * length held.now.edges.now) w.new result }
 {

@@ -31,7 +31,8 @@ fn keep_new(w: &mut [u64], a: usize, i: usize, b: usize, k: usize) -> usize
 // The same of rows that rise.
 fn keep_once(w: &mut [u64], a: usize, m: usize, b: usize) -> usize
     requires { (a + 3 * m ≤ b) × (b + m ≤ length w.old) × Rises w.old a m }
-    ensures { Kept (part w.new b result) (ids (drop a w.old) 3 m) × (result ≤ m) × (take b w.new ≡ take b w.old) }
+    ensures { Kept (part w.new b result) (ids (drop a w.old) 3 m) × (result ≤ m)
+        × (take b w.new ≡ take b w.old) }
 {
     let mut k = 0;
     for i in 0..m {
@@ -43,7 +44,8 @@ fn keep_once(w: &mut [u64], a: usize, m: usize, b: usize) -> usize
 // The ids of the m rows from word a on, in any order, each once, go to word b and on; the answer is how many they are.
 fn sort_once(w: &mut [u64], a: usize, m: usize, b: usize) -> usize
     requires { (a + 3 * m ≤ b) × (b + m ≤ length w.old) }
-    ensures { Kept (part w.new b result) (ids (drop a w.old) 3 m) × (result ≤ m) × (take a w.new ≡ take a w.old) }
+    ensures { Kept (part w.new b result) (ids (drop a w.old) 3 m) × (result ≤ m)
+        × (take a w.new ≡ take a w.old) }
 {
     sorts::sort3(&mut w[a..a + 3 * m], m);
     keep_once(w, a, m, b)
@@ -52,7 +54,8 @@ fn sort_once(w: &mut [u64], a: usize, m: usize, b: usize) -> usize
 // The same in time that grows with m alone, with words from c on to spare.
 pub fn list_once(w: &mut [u64], a: usize, m: usize, b: usize, c: usize) -> usize
     requires { (a + 3 * m ≤ b) × (b + m ≤ c) × (c + 4 * m ≤ length w.old) }
-    ensures { Kept (part w.new b result) (ids (drop a w.old) 3 m) × (result ≤ m) × (take a w.new ≡ take a w.old) }
+    ensures { Kept (part w.new b result) (ids (drop a w.old) 3 m) × (result ≤ m)
+        × (take a w.new ≡ take a w.old) }
 {
     by_digits::order_rows(w, a, m, c);
     sort_once(w, a, m, b)

@@ -10,7 +10,8 @@ use types::records::RowIndex;
 // The id of row i joins the k ids from word b on, if the row was reached.
 fn list_row(held: &Held, i: usize, w: &mut [u64], b: usize, k: usize) -> usize
     requires { (i < held.now.count) × (2 * held.now.count ≤ b) × (b + k < length w.old) }
-    ensures w_after { w.new ≡ cond (eqb (get_or w.old (held.now.count + i) 0) 1)
+    ensures w_after { w.new
+        ≡ cond (eqb (get_or w.old (held.now.count + i) 0) 1)
         (set w.old (b + k) (get_or held.now.rows.now (i * held_width) 0)) w.old }
     ensures value { result ≡ cond (eqb (get_or w.old (held.now.count + i) 0) 1) (k + 1) k }
 {
