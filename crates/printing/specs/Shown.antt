@@ -56,6 +56,15 @@ letter_of Merge = code "M"
 letter_of SegmentRemoved = code "R"
 letter_of Unknown = code "U"
 
+-- an update's last fields, from the pairs on
+abbrev pub change_fields : DagDelta → List ℕ → List ℕ → List (List ℕ)
+change_fields d splits merges =
+    splits_listed d.splits splits
+    ∷ merges_listed d.merges merges
+    ∷ (letter_of d.reason ∷ [])
+    ∷ decimal d.handover
+    ∷ []
+
 unfoldable pub shown_accepted : DagDelta → ℕ → List ℕ → List ℕ → List ℕ → List ℕ → List ℕ → List ℕ
 shown_accepted d rows order added removed splits merges =
     line (code "A")
@@ -63,11 +72,7 @@ shown_accepted d rows order added removed splits merges =
     ∷ listed rows order
     ∷ listed d.added added
     ∷ listed d.removed removed
-    ∷ splits_listed d.splits splits
-    ∷ merges_listed d.merges merges
-    ∷ (letter_of d.reason ∷ [])
-    ∷ decimal d.handover
-    ∷ [])
+    ∷ change_fields d splits merges)
 
 -- An update's answer, with the number of rows that its session holds then and the lists that it was lent.
 abbrev pub shown_updated : Updated → ℕ → List ℕ → List ℕ → List ℕ → List ℕ → List ℕ → List ℕ

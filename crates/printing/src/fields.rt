@@ -9,7 +9,7 @@ use texts::area::put_byte;
 use texts::commas::{put_list, put_pairs};
 use texts::numbers::put_number;
 
-pub const END: u8 = 10;
+pub const END: u8 = b'\n';
 
 pub fn field_number(out: &mut [u8], at: usize, word: u64) -> usize
     ensures { Wrote out.old at (32 ∷ decimal word) out.new result }

@@ -1,7 +1,7 @@
 // An update's answer: `A` epoch, order, added, removed, splits, merges, reason letter, handover; `T`; or a refusal.
 ghost use Rattle.std.specs.Prelude.{◌≡◌, [], ◌∷◌, ◌++◌};
 ghost use Rattle.texts.specs.Decimal.{decimal};
-ghost use Rattle.printing.specs.Shown.{spaced, letter_of, splits_listed, merges_listed, shown_accepted, shown_updated};
+ghost use Rattle.printing.specs.Shown.{spaced, letter_of, change_fields, shown_accepted, shown_updated};
 ghost use Rattle.texts.specs.Written.{Wrote};
 
 use crate::fields::{field_list, field_number, field_pairs, last_number, put_bare};
@@ -30,7 +30,7 @@ fn field_reason(out: &mut [u8], at: usize, reason: DagChangeReason) -> usize
 
 // The end of the line, from the pairs on.
 fn put_changes(out: &mut [u8], at: usize, d: DagDelta, splits: &[u64], merges: &[u64]) -> usize
-    ensures { Wrote out.old at (spaced (splits_listed d.splits splits.now ∷ merges_listed d.merges merges.now ∷ (letter_of d.reason ∷ []) ∷ decimal d.handover ∷ []) ++ (10 ∷ [])) out.new result }
+    ensures { Wrote out.old at (spaced (change_fields d splits.now merges.now) ++ (10 ∷ [])) out.new result }
 {
     let reason = d.reason;
     let p = field_pairs(out, at, splits, d.splits, b'>');
@@ -50,7 +50,9 @@ fn put_accepted(
     splits: &[u64],
     merges: &[u64],
 ) -> usize
-    ensures { Wrote out.old at (shown_accepted d rows order.now added.now removed.now splits.now merges.now) out.new result }
+    ensures { Wrote out.old at
+        (shown_accepted d rows order.now added.now removed.now splits.now merges.now)
+        out.new result }
 {
     let a = put_byte(out, at, b'A');
     let e = field_number(out, a, d.epoch);

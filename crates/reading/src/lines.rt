@@ -159,8 +159,10 @@ fn read_segment(line: &[u8], edges: &mut [u64]) -> Option<Line>
 
 fn read_query(line: &[u8], history: &mut [u64], completed: &mut [u64]) -> Option<Line>
     ensures says { result ≡ (query_line (length history.old) (length completed.old) line.now).line }
-    ensures history { history.new ≡ filled history.old (query_line (length history.old) (length completed.old) line.now).history }
-    ensures completed { completed.new ≡ filled completed.old (query_line (length history.old) (length completed.old) line.now).completed }
+    ensures history { history.new
+        ≡ filled history.old (query_line (length history.old) (length completed.old) line.now).history }
+    ensures completed { completed.new
+        ≡ filled completed.old (query_line (length history.old) (length completed.old) line.now).completed }
 {
     if fields::count_fields(line) != 5 {
         return None;
@@ -200,7 +202,8 @@ pub fn read_line(
     history: &mut [u64],
     completed: &mut [u64],
 ) -> Option<Line>
-    ensures { Told line.now edges.old history.old completed.old result edges.new history.new completed.new }
+    ensures { Told line.now edges.old history.old completed.old
+        result edges.new history.new completed.new }
 {
     match fields::letter_at(line, 0) {
         b's' => read_segment(line, edges),

@@ -19,7 +19,8 @@ pub fn list_length(field: &[u8], room: usize) -> Option<usize>
 // The list into the front of the words, where it is readable and has room there.
 pub fn read_list(field: &[u8], words: &mut [u64]) -> Option<usize>
     ensures count { result ≡ listed (list_of (length words.old) field.now) }
-    ensures written { words.new ≡ filled words.old (list_words (list_of (length words.old) field.now)) }
+    ensures written { words.new
+        ≡ filled words.old (list_words (list_of (length words.old) field.now)) }
 {
     let n = list_length(field, words.len())?;
     if 0 < n {
@@ -36,7 +37,8 @@ pub fn length_at(line: &[u8], number: usize, room: usize) -> Option<usize>
 }
 
 pub fn list_at(line: &[u8], number: usize, words: &mut [u64])
-    ensures { words.new ≡ filled words.old (list_words (list_of (length words.old) (field line.now number))) }
+    ensures { words.new
+        ≡ filled words.old (list_words (list_of (length words.old) (field line.now number))) }
 {
     read_list(spans::field_at(line, number), words);
 }

@@ -1,8 +1,6 @@
 // What the programs print in the same words: numbers, lists, refusals, and how many words of an area are changed.
 #![tactic(auto)]
 
-ghost use Rattle.std.specs.Prelude.{◌+◌, ◌≤◌, ◌<◌};
-
 use answers::{Refusal, RefusalWords};
 use std::io;
 
@@ -39,11 +37,11 @@ fn item(rt: &impl Print, i: usize, id: u64) -> io::Result<()> {
 
 // A space and the words with commas, or `-` where there are none.
 pub fn ids(rt: &impl Print, list: &[u64]) -> io::Result<()> {
-    if list.len() == 0 {
+    if list.is_empty() {
         text(rt, b" -")?;
     }
-    for (i, id) in list.iter().enumerate() {
-        item(rt, i, *id)?;
+    for (i, &id) in list.iter().enumerate() {
+        item(rt, i, id)?;
     }
     Ok(())
 }
@@ -53,43 +51,18 @@ pub fn area(rt: &impl Print, label: &[u8], list: &[u64]) -> io::Result<()> {
     ids(rt, list)
 }
 
-// The value, if the refusal carries one at this place.
-fn value(rt: &impl Print, carried: u64, place: u64, v: u64) -> io::Result<()> {
-    if place < carried {
-        word(rt, v)?;
-    }
-    Ok(())
-}
-
 // The number, and as many values as the fixed table gives it.
 pub fn refusal(rt: &impl Print, r: Refusal) -> io::Result<()> {
     let r = RefusalWords::from(r);
     let kind = answers::kinds::kind_of(r.number);
     word(rt, r.number)?;
-    value(rt, kind.values, 0, r.a)?;
-    value(rt, kind.values, 1, r.b)?;
-    value(rt, kind.values, 2, r.c)?;
-    value(rt, kind.values, 3, r.d)
-}
-
-// One more, if the word is another than this one.
-fn counted(n: u64, word: u64, than: u64) -> u64
-    requires { n < 18446744073709551615 }
-    ensures { result ≤ n + 1 }
-{
-    if word != than {
-        return n + 1;
+    for v in [r.a, r.b, r.c, r.d].into_iter().take(kind.values as usize) {
+        word(rt, v)?;
     }
-    n
+    Ok(())
 }
 
 // How many words are another than this one.
 pub fn others(a: &[u64], than: u64) -> u64 {
-    let mut i = 0;
-    let mut n = 0u64;
-    while i < a.len() {
-        n = counted(n, a[i], than);
-        i += 1;
-    }
-    n
+    a.iter().filter(|&&word| word != than).count() as u64
 }

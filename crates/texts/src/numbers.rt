@@ -8,17 +8,19 @@ use crate::area::{put_byte, put_bytes};
 // The digits at the end of `space`, and where they begin. The last digit comes first, so they are made from the back.
 fn spell(word: u64, space: &mut [u8]) -> usize
     requires { length space.old ≡ 20 }
-    ensures { (result ≤ 20) × (drop result space.new ≡ decimal word) }
+    ensures within { result ≤ 20 }
+    ensures digits { drop result space.new ≡ decimal word }
 {
     let mut rest = word;
     let mut i = 20;
+    // a `while`, since how many digits there are is known when the last is made
     while rest >= 10 {
         i -= 1;
-        space[i] = 48 + (rest % 10) as u8;
+        space[i] = b'0' + (rest % 10) as u8;
         rest /= 10;
     }
     i -= 1;
-    space[i] = 48 + rest as u8;
+    space[i] = b'0' + rest as u8;
     i
 }
 

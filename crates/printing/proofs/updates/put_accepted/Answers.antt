@@ -2,15 +2,14 @@
 use mathlib.Core.List.{[], ◌∷◌}
 use Rattle.texts.proofs.Writing.{on}
 use Rattle.printing.proofs.LineLaws.{field}
-use Rattle.texts.specs.Decimal.{decimal}
 use Rattle.texts.specs.CommaList.{listed}
-use Rattle.printing.specs.Shown.{letter_of, splits_listed, merges_listed, shown_accepted}
+use Rattle.printing.specs.Shown.{change_fields, shown_accepted}
 use Rattle.printing.proofs.updates.put_accepted.Goals as goal
 
 pub returns : goal.returns
 unfolding shown_accepted
 returns c =
-    let s = splits_listed c.args.d.splits c.args.splits.now ∷ merges_listed c.args.d.merges c.args.merges.now ∷ (letter_of c.args.d.reason ∷ []) ∷ decimal c.args.d.handover ∷ [] in
+    let s = change_fields c.args.d c.args.splits.now c.args.merges.now in
     let r = listed c.args.d.removed c.args.removed.now ∷ s in
     let p = listed c.args.d.added c.args.added.now ∷ r in
     let o = listed c.args.rows c.args.order.now ∷ p in
