@@ -13,3 +13,13 @@ pub mod Told
 pub mod Keeping
 pub mod Examples
 pub mod Run
+pub mod Bare
+pub mod BareParts
+pub mod BareFields
+pub mod NumberLengths
+pub mod FieldLengths
+pub mod KeptReads
+pub mod Sizes
+pub mod SameLine
+pub mod KeptLong
+pub mod AnyLength

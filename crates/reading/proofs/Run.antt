@@ -1,6 +1,6 @@
 -- A whole line taken byte by byte: the buffer holds what is kept of the line, or the line is too long for it. And a 0 that leads a
 -- number, or a code behind its minus, changes nothing. By induction on the bytes. Assumes nothing.
-use Rattle.std.specs.Prelude.{Option, Some, None}
+use Rattle.std.specs.Prelude.{Some, None}
 use mathlib.Core.Path.{◌≡◌, refl, sym, ap, subst}
 use mathlib.Core.Bool.{Bool, true, false, cond, ◌&&◌}
 use mathlib.Core.List.{List, [], ◌∷◌, ◌++◌}
@@ -12,7 +12,7 @@ use borrow.Author.Tests.{le-leb, lt-leb}
 use lib.ListN.{length, take, drop, length-append, length-drop}
 use lib.Seq.{take-append_seam, length-take-le}
 use Rattle.reading.specs.Numbers.{is_digit, grown, number_of, code_of}
-use Rattle.reading.specs.Kept.{Buffer, lone_zero, keep_byte, kept_from, kept_line, after}
+use Rattle.reading.specs.Kept.{Buffer, lone_zero, keep_byte, kept_from, kept_line, after, run}
 
 -- ---- a 0 that leads
 
@@ -39,10 +39,6 @@ kept-grows [] k = omega arith
 kept-grows (b ∷ s) k = omega (arith, keep-grows k b, kept-grows s (keep_byte k b))
 
 -- ---- all bytes
-
-abbrev pub run : List ℕ → Option ℕ → List ℕ → Buffer
-run buffer k [] = record { kept = k; bytes = buffer }
-run buffer k (b ∷ s) = run (after buffer k b).bytes (after buffer k b).kept s
 
 step : (buffer : List ℕ) (n b : ℕ) → n ≤ length buffer → length (keep_byte (take n buffer) b) ≤ length buffer
     → after buffer (Some n) b

@@ -43,3 +43,8 @@ unfoldable pub after : List ℕ → Option ℕ → ℕ → Buffer
 after buffer None b = record { kept = None; bytes = buffer }
 after buffer (Some n) b =
     cond (leb n (length buffer)) (stored buffer (keep_byte (take n buffer) b)) (record { kept = None; bytes = buffer })
+
+-- a whole line, byte by byte, into a buffer
+abbrev pub run : List ℕ → Option ℕ → List ℕ → Buffer
+run buffer k [] = record { kept = k; bytes = buffer }
+run buffer k (b ∷ s) = run (after buffer k b).bytes (after buffer k b).kept s

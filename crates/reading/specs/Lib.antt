@@ -3,3 +3,4 @@ pub mod Fields
 pub mod Lists
 pub mod Lines
 pub mod Kept
+pub mod LongLines

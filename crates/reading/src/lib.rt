@@ -1,5 +1,6 @@
 // What the listing program reads: numbers, codes, optional fields and lists, and each kind of line. Every call answers for every
-// line of bytes; the program prints and keeps order.
+// line of bytes; the program prints and keeps order. What a bounded buffer keeps of a line of any length reads as the line that
+// came (specs/LongLines).
 #![tactic(auto)]
 
 pub mod fields;

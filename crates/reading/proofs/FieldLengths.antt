@@ -17,9 +17,9 @@ use Rattle.reading.specs.Lists.{items_of, before, numbers_of, list_of}
 use Rattle.reading.specs.Lines.{mode_of}
 use Rattle.reading.specs.Kept.{is_edge}
 use Rattle.reading.proofs.Parts.{later, split-first}
-use Rattle.long_lines.proofs.Bare.{leads, bare, leads-zero}
-use Rattle.long_lines.proofs.BareParts.{bare_parts, split_bare}
-use Rattle.long_lines.proofs.NumberLengths.{bare-short, number_short}
+use Rattle.reading.proofs.Bare.{leads, bare, leads-zero}
+use Rattle.reading.proofs.BareParts.{bare_parts, split_bare}
+use Rattle.reading.proofs.NumberLengths.{bare-short, number_short}
 
 -- ---- a letter
 

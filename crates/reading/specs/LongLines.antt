@@ -3,9 +3,8 @@
 -- Assumes nothing.
 use Rattle.std.specs.Prelude.{Option, Some, None}
 use Rattle.std.specs.Prelude.{◌≡◌, ℕ, ◌+◌, ◌*◌, ◌≤◌, List, take}
-use Rattle.reading.specs.Kept.{Buffer}
+use Rattle.reading.specs.Kept.{Buffer, run}
 use Rattle.reading.specs.Lines.{Read, plain, line_of}
-use Rattle.reading.proofs.Run.{run}
 
 -- what is read of the bytes that are kept; of a line that found the buffer full, that it is unreadable
 abbrev pub read_bytes : ℕ → ℕ → ℕ → Option ℕ → List ℕ → Read

@@ -7,10 +7,10 @@ use lib.ListN.{length}
 use Rattle.reading.specs.Fields.{fields_of, field, letter_of}
 use Rattle.reading.specs.Lines.{mode_of, line_of}
 use Rattle.reading.specs.Kept.{kept_line}
-use Rattle.long_lines.proofs.Bare.{bare, kept-bare}
-use Rattle.long_lines.proofs.BareParts.{split_bare, parts-length, part-first, part-later, bare_parts}
-use Rattle.long_lines.proofs.BareFields.{number-bare, code-bare, letter-bare, asked-bare, option-bare, list-bare}
-use Rattle.long_lines.proofs.SameLine.{Same, same_line}
+use Rattle.reading.proofs.Bare.{bare, kept-bare}
+use Rattle.reading.proofs.BareParts.{split_bare, parts-length, part-first, part-later, bare_parts}
+use Rattle.reading.proofs.BareFields.{number-bare, code-bare, letter-bare, asked-bare, option-bare, list-bare}
+use Rattle.reading.proofs.SameLine.{Same, same_line}
 
 module _ (s : List ℕ) where
   fields : fields_of (kept_line s) ≡ bare_parts 32 0 (fields_of s)

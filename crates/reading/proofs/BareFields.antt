@@ -14,8 +14,8 @@ use Rattle.reading.specs.Lists.{items_of, numbers_of, list_of}
 use Rattle.reading.specs.Kept.{is_edge}
 use Rattle.reading.proofs.Digits.{stuck}
 use Rattle.reading.proofs.Run.{zero_number}
-use Rattle.long_lines.proofs.Bare.{leads, bare, leads-zero, leads-digit, leads-nowhere}
-use Rattle.long_lines.proofs.BareParts.{bare_parts, split_bare}
+use Rattle.reading.proofs.Bare.{leads, bare, leads-zero, leads-digit, leads-nowhere}
+use Rattle.reading.proofs.BareParts.{bare_parts, split_bare}
 
 -- ---- a number
 

@@ -15,7 +15,7 @@ use Rattle.reading.specs.Numbers.{is_digit, grown, onward, number_of}
 use Rattle.reading.specs.Kept.{is_edge}
 use Rattle.reading.proofs.Digits.{stuck}
 use Rattle.reading.proofs.Run.{zero_number}
-use Rattle.long_lines.proofs.Bare.{leads, bare, both, leads-zero}
+use Rattle.reading.proofs.Bare.{leads, bare, both, leads-zero}
 
 pub bare-short : (x : ℕ) (s : List ℕ) → length (bare x s) ≤ length s
 unfolding bare

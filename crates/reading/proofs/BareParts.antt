@@ -11,7 +11,7 @@ use lib.ListN.{length, get_or, take}
 use Rattle.reading.specs.Numbers.{is_digit}
 use Rattle.reading.specs.Fields.{split, push, up_to}
 use Rattle.reading.proofs.Parts.{split-first}
-use Rattle.long_lines.proofs.Bare.{leads, bare, leads-zero}
+use Rattle.reading.proofs.Bare.{leads, bare, leads-zero}
 
 -- the first part behind x, each other behind its separator
 unfoldable pub bare_parts : ℕ → ℕ → List (List ℕ) → List (List ℕ)

@@ -12,10 +12,10 @@ use Rattle.reading.specs.Fields.{fields_of, field, letter_of, option_of}
 use Rattle.reading.specs.Lists.{list_of}
 use Rattle.reading.specs.Lines.{mode_of}
 use Rattle.reading.specs.Kept.{kept_line}
-use Rattle.long_lines.proofs.Bare.{bare}
-use Rattle.long_lines.proofs.NumberLengths.{number_short}
-use Rattle.long_lines.proofs.FieldLengths.{mode-short, option-short, code-short, list-short, total, split-total}
-use Rattle.long_lines.proofs.KeptReads.{kept-count, field-first, field-later}
+use Rattle.reading.proofs.Bare.{bare}
+use Rattle.reading.proofs.NumberLengths.{number_short}
+use Rattle.reading.proofs.FieldLengths.{mode-short, option-short, code-short, list-short, total, split-total}
+use Rattle.reading.proofs.KeptReads.{kept-count, field-first, field-later}
 
 -- ---- a field says something, and then it is short, or nothing
 

@@ -7,12 +7,12 @@ use Prim.Native.Nat.{ℕ, ◌<◌, ◌≤◌}
 use native.Mathlib.Omega.{arith}
 use native.Mathlib.Decide.{dec_lt}
 use lib.ListN.{length}
-use Rattle.reading.specs.Kept.{kept_line}
+use Rattle.reading.specs.Kept.{kept_line, run}
 use Rattle.reading.specs.Lines.{line_of}
-use Rattle.reading.proofs.Run.{run, Holds, line_kept, line-long}
-use Rattle.long_lines.specs.LongLines.{read_kept, Roomy, AnyLength, line_bytes, list_words}
-use Rattle.long_lines.proofs.KeptReads.{kept-reads}
-use Rattle.long_lines.proofs.KeptLong.{kept-long}
+use Rattle.reading.proofs.Run.{Holds, line_kept, line-long}
+use Rattle.reading.specs.LongLines.{read_kept, Roomy, AnyLength, line_bytes, list_words}
+use Rattle.reading.proofs.KeptReads.{kept-reads}
+use Rattle.reading.proofs.KeptLong.{kept-long}
 
 pub any-length : (buffer : List ℕ) (edges history completed : ℕ) → Roomy (length buffer) edges history completed → AnyLength buffer edges history completed
 any-length buffer edges history completed roomy s = go (dec_lt (length buffer) (length (kept_line s)))

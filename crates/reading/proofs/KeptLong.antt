@@ -1,6 +1,6 @@
 -- A line of which more bytes are kept than a readable line can have is unreadable: it has another count of fields, or one of them is too long
 -- to say anything. A readable field has at most 21 bytes and a list at most 21 for each number. Assumes nothing.
-use Rattle.std.specs.Prelude.{option_map, Option, None}
+use Rattle.std.specs.Prelude.{option_map, None}
 use mathlib.Core.Path.{◌≡◌, refl}
 use mathlib.Core.Bool.{Bool, true, false, cond}
 use mathlib.Core.List.{List}
@@ -12,15 +12,14 @@ use lib.ListN.{length}
 use Rattle.types.specs.declared.records.Optional.{Optional}
 use Rattle.types.specs.declared.records.OrderingMode.{OrderingMode}
 use Rattle.types.specs.declared.records.SegmentInfo.{SegmentInfo}
-use Rattle.reading.specs.declared.lines.Line.{Line}
 use Rattle.reading.specs.Numbers.{number_of, code_of}
 use Rattle.reading.specs.Fields.{fields_of, field, letter_of, option_of}
 use Rattle.reading.specs.Lists.{list_of}
-use Rattle.reading.specs.Lines.{Read, plain, counted, given, mode_of, sole_number, sole_name, layout_line, placement_line, error_line, end_line, row_of, segment_line, query_line, plain_line, line_of, name_of}
+use Rattle.reading.specs.Lines.{plain, counted, given, mode_of, sole_number, sole_name, layout_line, placement_line, error_line, end_line, row_of, segment_line, query_line, plain_line, line_of, name_of}
 use Rattle.reading.specs.Kept.{kept_line}
-use Rattle.long_lines.specs.LongLines.{Roomy}
-use Rattle.long_lines.proofs.FieldLengths.{letter-short}
-use Rattle.long_lines.proofs.Sizes.{Size, number-else, code-else, option-else, mode-else, list-else, sum_to, size, letter-first, kept-size}
+use Rattle.reading.specs.LongLines.{Roomy}
+use Rattle.reading.proofs.FieldLengths.{letter-short}
+use Rattle.reading.proofs.Sizes.{Size, number-else, code-else, option-else, mode-else, list-else, sum_to, size, letter-first, kept-size}
 
 -- ---- a line goes on field by field, or is unreadable
 
