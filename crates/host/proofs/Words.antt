@@ -1,16 +1,12 @@
--- Answers as structs of numbers, told of the rule book's answer: the judge's promise and the ordering query's. Assumes nothing.
+-- Answers as structs of numbers, told of the rule book's answer. Assumes nothing.
 use Prim.Native.Nat.{ℕ}
-use mathlib.Core.Path.{◌≡◌, refl, ap, ◌∙◌}
+use mathlib.Core.Path.{◌≡◌, ap, ◌∙◌}
 use mathlib.Core.Bool.{Bool}
 use mathlib.Core.List.{List}
-use lib.ListN.{length}
 use Rattle.answers.specs.declared.RefusalWords.{RefusalWords}
 use Rattle.answers.specs.declared.Ordering.{Ordering}
 use Rattle.types.specs.declared.records.OrderingMode.{OrderingMode}
-use Rattle.types.specs.declared.limits.DagLimits.{DagLimits}
-use Rattle.rules.specs.Judge.{Tables, Areas, judgement}
 use Rattle.rules.specs.Ordering.{Asked, ordering_of, first_after, second_after, order_work_after}
-use Rattle.layout.specs.Lent.{Owed}
 use Rattle.crossing.specs.declared.answer.OrderingWords.{OrderingWords}
 use Rattle.crossing.specs.Told.{refusal_of, ordering_words}
 use Rattle.host.specs.Mode.{mode_of}
@@ -18,12 +14,6 @@ use Rattle.answers.specs.Answer.{Judged}
 
 pub told-as : (v : RefusalWords) (j k : Judged) → v ≡ refusal_of j → j ≡ k → v ≡ refusal_of k
 told-as v j k said e = said ∙ ap refusal_of e
-
--- an answer that the judge owes is the rule book's
-pub owed_whole : (epoch size : ℕ) (limits : DagLimits) (t : Tables) (work : List ℕ) (a : Areas) (j : Judged) (work' held' links' order' : List ℕ)
-    → Owed epoch size limits t work a j work' held' links' order' → Owed epoch size limits t work a (judgement epoch size limits t (length work) a) work' held' links' order'
-owed_whole epoch size limits t work a j work' held' links' order' o =
-    record { answer = refl; cleared = o.cleared; rows-held = o.rows-held; edges-held = o.edges-held; order-held = o.order-held }
 
 -- the query of a mode is that of the flag that the mode was made of
 pub asked-whole : (ask : OrderingMode → Asked) (managed : Bool) (mode : OrderingMode) (v : OrderingWords) (o : Ordering) (first first' second second' work work' : List ℕ)

@@ -1,6 +1,7 @@
 // The two answers that the listing prints: of an update, and of an ordering query. Areas that no line comes back to are lent from here.
 use crate::tables::first_bytes;
 use std::io;
+use types::lent::{Areas, Changes, Layout};
 use types::records::{OrderingMode, SegmentId, Session, Update};
 
 // The update that `.` ends: its answer is printed, and the session after it handed back.
@@ -21,20 +22,29 @@ pub fn end_update(
     let mut removed = [0u64; 32];
     let mut splits = [0u64; 128];
     let mut merges = [0u64; 128];
-    let o = watch::update(
-        session,
-        update,
+    let layout = Layout {
         rows,
         edges,
         places,
-        &mut work,
+    };
+    let mut areas = Areas {
         held,
         links,
-        &mut order,
-        &mut added,
-        &mut removed,
-        &mut splits,
-        &mut merges,
+        order: &mut order,
+    };
+    let mut changes = Changes {
+        added: &mut added,
+        removed: &mut removed,
+        splits: &mut splits,
+        merges: &mut merges,
+    };
+    let o = watch::update(
+        session,
+        update,
+        &layout,
+        &mut work,
+        &mut areas,
+        &mut changes,
     );
     let answer = o.answer;
     let mut out = [0u8; 8192];
