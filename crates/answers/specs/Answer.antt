@@ -6,8 +6,8 @@ use Rattle.answers.specs.declared.Refusal.TheVariants.{BadTable, NoRoom, Seriali
 use Rattle.answers.specs.declared.RefusalWords.{RefusalWords}
 use Rattle.answers.specs.Verdict.{Verdict}
 use Rattle.answers.specs.Verdict as E
-use Rattle.answers.specs.declared.Updated.{Updated}
-use Rattle.answers.specs.declared.Updated.TheVariants as U
+use Rattle.answers.specs.Updates.{UpdateAnswer}
+use Rattle.answers.specs.Updates as U
 
 infixr 5 ◌then◌
 -- what a judgement says: nothing or the refusal
@@ -144,12 +144,12 @@ eligibility_values (E.Blocked n m) = []
 eligibility_values E.Eligible = []
 eligibility_values (E.BrokerManaged m) = []
 
-abbrev pub updated_number : Updated → ℕ
+abbrev pub updated_number : UpdateAnswer → ℕ
 updated_number (U.Refused r) = refusal_number r
 updated_number U.Stale = 0
 updated_number (U.Accepted d) = 0
 
-abbrev pub updated_values : Updated → List ℕ
+abbrev pub updated_values : UpdateAnswer → List ℕ
 updated_values (U.Refused r) = refusal_values r
 updated_values U.Stale = []
 updated_values (U.Accepted d) = []

@@ -1,3 +1,4 @@
 pub mod Answer
 pub mod Kinds
+pub mod Updates
 pub mod Verdict

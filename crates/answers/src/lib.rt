@@ -339,7 +339,7 @@ pub struct Ordering {
 }
 
 // Why the layout changed under its readers.
-#[derive(Clone, Copy)]
+#[derive(Clone, Copy, PartialEq, Eq, Debug)]
 pub enum DagChangeReason {
     Split,
     Merge,
@@ -348,7 +348,7 @@ pub enum DagChangeReason {
 }
 
 // What an accepted update changed: how many words (added, removed) and pairs (splits, merges) the four lists hold.
-#[derive(Clone, Copy)]
+#[derive(Clone, Copy, PartialEq, Eq, Debug)]
 pub struct DagDelta {
     pub epoch: u64,
     pub added: usize,
@@ -359,10 +359,10 @@ pub struct DagDelta {
     pub handover: u64,
 }
 
-// The answer of an update.
-#[derive(Clone, Copy)]
+// What an update comes to that is not refused: the answer of an update is a `Result<Updated, Refusal>`.
+#[derive(Clone, Copy, PartialEq, Eq, Debug)]
 pub enum Updated {
-    Refused(Refusal),
+    // its epoch is at or below the held one
     Stale,
     Accepted(DagDelta),
 }

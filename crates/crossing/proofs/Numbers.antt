@@ -7,8 +7,8 @@ use mathlib.Core.List.{List}
 use Rattle.answers.specs.declared.RefusalWords.{RefusalWords}
 use Rattle.answers.specs.Verdict.{Verdict}
 use Rattle.answers.specs.Verdict as E
-use Rattle.answers.specs.declared.Updated.{Updated}
-use Rattle.answers.specs.declared.Updated.TheVariants as U
+use Rattle.answers.specs.Updates.{UpdateAnswer}
+use Rattle.answers.specs.Updates as U
 use Rattle.answers.specs.Answer.{words_by, number_of, values_of, eligibility_number, eligibility_values, updated_number, updated_values, Judged, Accepted, Refused}
 use Rattle.crossing.specs.Told.{refusal_of, bar_of}
 use Rattle.crossing.specs.Updates.{updated_words}
@@ -28,7 +28,7 @@ ordering-tells (E.Blocked n m) = refl
 ordering-tells E.Eligible = refl
 ordering-tells (E.BrokerManaged m) = refl
 
-pub update-tells : (u : Updated) → Tells (updated_words u).refusal (updated_number u) (updated_values u)
+pub update-tells : (u : UpdateAnswer) → Tells (updated_words u).refusal (updated_number u) (updated_values u)
 update-tells (U.Refused r) = refl
 update-tells U.Stale = refl
 update-tells (U.Accepted d) = refl

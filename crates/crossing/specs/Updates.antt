@@ -5,8 +5,8 @@ use Rattle.answers.specs.Answer.{words_of}
 use Rattle.answers.specs.declared.RefusalWords.{RefusalWords}
 use Rattle.answers.specs.declared.DagChangeReason.{DagChangeReason}
 use Rattle.answers.specs.declared.DagChangeReason.TheVariants.{Split, Merge, SegmentRemoved, Unknown}
-use Rattle.answers.specs.declared.Updated.{Updated}
-use Rattle.answers.specs.declared.Updated.TheVariants as U
+use Rattle.answers.specs.Updates.{UpdateAnswer}
+use Rattle.answers.specs.Updates as U
 use Rattle.crossing.specs.declared.updated.UpdatedWords.{UpdatedWords}
 use Rattle.crossing.specs.Told.{no_refusal}
 
@@ -22,7 +22,7 @@ abbrev pub unchanged_words : ℕ → RefusalWords → UpdatedWords
 unchanged_words outcome refusal =
     record { outcome = outcome; refusal = refusal; epoch = 0; added = 0; removed = 0; splits = 0; merges = 0; reason = 0; handover = 0 }
 
-abbrev pub updated_words : Updated → UpdatedWords
+abbrev pub updated_words : UpdateAnswer → UpdatedWords
 updated_words (U.Refused r) = unchanged_words 0 (words_of r)
 updated_words U.Stale = unchanged_words 1 no_refusal
 updated_words (U.Accepted d) =

@@ -4,8 +4,6 @@ ghost use Rattle.rules.specs.Tables.{held_width};
 ghost use Rattle.rules.specs.Room.{work_need};
 ghost use Rattle.crossing.specs.Needs.{capped, update_needs, ordering_needs};
 
-const GREATEST: u64 = 18446744073709551615;
-
 // Words of each area of an update; the first four, with no held row, are those of the judge.
 #[repr(C)]
 #[derive(Clone, Copy, PartialEq, Eq, Debug)]
@@ -29,54 +27,33 @@ pub struct OrderingNeeds {
     pub second: u64,
 }
 
-// The work area for a, b, c and d things together: each is taken from what is left, so that no sum can wrap.
+// The work area for a, b, c and d things together.
 fn work_words(a: u64, b: u64, c: u64, d: u64) -> u64
     ensures { result ≡ capped (work_need (a + b + c + d)) }
 {
-    let left = GREATEST / 32;
-    if left < a {
-        return GREATEST;
-    }
-    if left - a < b {
-        return GREATEST;
-    }
-    if left - a - b < c {
-        return GREATEST;
-    }
-    if left - a - b - c < d {
-        return GREATEST;
-    }
-    32 * (a + b + c + d)
+    let things = a.saturating_add(b).saturating_add(c).saturating_add(d);
+    things.saturating_mul(32)
 }
 
 // n held rows.
 fn held_words(n: u64) -> u64
     ensures { result ≡ capped (n * held_width) }
 {
-    if GREATEST / 15 < n {
-        return GREATEST;
-    }
-    n * 15
+    n.saturating_mul(rules::HELD as u64)
 }
 
 // A pair for each of k edge words.
 fn pair_words(k: u64) -> u64
     ensures { result ≡ capped (2 * k) }
 {
-    if GREATEST / 2 < k {
-        return GREATEST;
-    }
-    2 * k
+    k.saturating_mul(2)
 }
 
 // A list of g ids and one more.
 fn list_words(g: u64) -> u64
     ensures { result ≡ capped (g + 1) }
 {
-    if g == GREATEST {
-        return GREATEST;
-    }
-    g + 1
+    g.saturating_add(1)
 }
 
 // For n segment rows, p placement rows and k edge words that come beside h held rows.

@@ -1,8 +1,8 @@
 // The answer of an update as a struct that C can take.
 ghost use Rattle.std.specs.Prelude.{◌≡◌};
-ghost use Rattle.crossing.specs.Updates.{reason_number, updated_words};
+ghost use Rattle.crossing.specs.Updates.{reason_number, unchanged_words, updated_words};
 
-use answers::{DagChangeReason, RefusalWords, Updated};
+use answers::{DagChangeReason, Refusal, RefusalWords, Updated};
 
 // What an update answers. `outcome`: 0 refused, 1 stale, 2 accepted; `reason`: 0 split, 1 merge, 2 removed, 3 unknown; how many words (added,
 // removed) and pairs (splits, merges) the four lists hold. All but `outcome` and `refusal` are 0 unless accepted.
@@ -33,7 +33,7 @@ fn reason_number(reason: DagChangeReason) -> u64
 
 // Nothing was changed.
 fn unchanged(outcome: u64, refusal: RefusalWords) -> UpdatedWords
-    ensures { result ≡ record { outcome = outcome; refusal = refusal; epoch = 0; added = 0; removed = 0; splits = 0; merges = 0; reason = 0; handover = 0 } }
+    ensures { result ≡ unchanged_words outcome refusal }
 {
     UpdatedWords {
         outcome,
@@ -48,25 +48,22 @@ fn unchanged(outcome: u64, refusal: RefusalWords) -> UpdatedWords
     }
 }
 
-pub fn updated_words(u: Updated) -> UpdatedWords
+pub fn updated_words(u: Result<Updated, Refusal>) -> UpdatedWords
     ensures { result ≡ updated_words u }
 {
     match u {
-        Updated::Refused(r) => unchanged(0, r.into()),
-        Updated::Stale => unchanged(1, crate::answer::NONE),
-        Updated::Accepted(d) => {
-            let reason = d.reason;
-            UpdatedWords {
-                outcome: 2,
-                refusal: crate::answer::NONE,
-                epoch: d.epoch,
-                added: d.added,
-                removed: d.removed,
-                splits: d.splits,
-                merges: d.merges,
-                reason: reason_number(reason),
-                handover: d.handover,
-            }
-        }
+        Err(r) => unchanged(0, r.into()),
+        Ok(Updated::Stale) => unchanged(1, crate::answer::NONE),
+        Ok(Updated::Accepted(d)) => UpdatedWords {
+            outcome: 2,
+            refusal: crate::answer::NONE,
+            epoch: d.epoch,
+            added: d.added,
+            removed: d.removed,
+            splits: d.splits,
+            merges: d.merges,
+            reason: reason_number(d.reason),
+            handover: d.handover,
+        },
     }
 }

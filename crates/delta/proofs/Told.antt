@@ -1,7 +1,7 @@
 -- From what the parts answer, of the rows of the image at the front of the work area, to the delta of its segments.
 --     added-lacking     the ids of the added segments are those that the old table lacks
 --     lent_rows, lent-room, lent-widths     what the parts ask of the rows that they are lent
---     told-added, told-removed, told-delta     what they say of the lists and of the delta
+--     told-changed, told-delta     what they say of the lists and of the delta
 -- Assumes nothing.
 use Prim.Native.Nat.{ℕ, ◌+◌, ◌-◌, ◌*◌, ◌≤◌}
 use native.Mathlib.Nat.{sub-zero}
@@ -18,12 +18,13 @@ use Rattle.answers.specs.declared.DagDelta.{DagDelta}
 use Rattle.rules.specs.Model.{Segment, id_of, ids_of}
 use Rattle.rules.specs.Tables.{held_width}
 use Rattle.rules.specs.Delta.{added_from, widths_active, reason_of}
+use Rattle.rules.specs.Update.{Changes}
 use Rattle.tabled.specs.Image.{Image, image_rows, image_edges, image_segments}
 use Rattle.tabled.proofs.ByRow.{ids-segments}
 use Rattle.paired.specs.Tables.{Rows, ids_in, lacking}
-use Rattle.paired.specs.Pairs.{splits_from, merges_from}
+use Rattle.paired.specs.Pairs.{splits_from, merges_from, paired_from}
 use Rattle.delta.specs.Bare.{bare}
-use Rattle.delta.specs.Changed.{removed_from, delta_from}
+use Rattle.delta.specs.Changed.{removed_from, moved_from, delta_from, changed_from}
 use Rattle.delta.proofs.Summed.{widths-any, handed-any}
 
 pub added-lacking : (u : List ℕ) (ss : List Segment) → ids_of (added_from u ss) ≡ lacking (ids_of ss) u
@@ -67,11 +68,10 @@ module _ (w : List ℕ) (n e : ℕ) (image : Image w n e) where
     removed-is : lacking u (ids_in (lent w n) n) ≡ removed_from u (image_segments w n e)
     removed-is = ap (lacking u) new-ids ∙ sym (removed-lacking u (image_segments w n e))
 
-    pub told-added : (out₀ out : List ℕ) → out ≡ front (lacking (ids_in (lent w n) n) u) out₀ → out ≡ front (ids_of (added_from u (image_segments w n e))) out₀
-    told-added out₀ out said = said ∙ ap (λ (l : List ℕ). front l out₀) added_is
-
-    pub told-removed : (out₀ out : List ℕ) → out ≡ front (lacking u (ids_in (lent w n) n)) out₀ → out ≡ front (removed_from u (image_segments w n e)) out₀
-    told-removed out₀ out said = said ∙ ap (λ (l : List ℕ). front l out₀) removed-is
+    -- the lists of ids, and behind them the lists of pairs
+    pub told-changed : (c c₁ c₂ : Changes) → c₁ ≡ moved_from u (ids_in (lent w n) n) c → c₂ ≡ paired_from u (image_segments w n e) c₁
+        → c₂ ≡ changed_from u (image_segments w n e) c
+    told-changed c c₁ c₂ one two = two ∙ rw one (rw (added_is, removed-is) refl)
 
     pub told-delta : (epoch more fewer split merged handover : ℕ) (reason : DagChangeReason)
         → more ≡ length (lacking (ids_in (lent w n) n) u) → fewer ≡ length (lacking u (ids_in (lent w n) n))

@@ -2,21 +2,22 @@
 #![tactic(auto)]
 
 ghost use Rattle.std.specs.Prelude.{◌≡◌, ◌+◌, ◌*◌, ◌≤◌, length, take};
-ghost use Rattle.lists.specs.Lists.{front};
-ghost use Rattle.rules.specs.Model.{ids_of};
+ghost use Rattle.types.specs.Lent.{SameChanges};
 ghost use Rattle.rules.specs.Tables.{held_width};
-ghost use Rattle.rules.specs.Delta.{added_from, pair_words, widths_active, reason_of, consume_affecting};
+ghost use Rattle.rules.specs.Delta.{added_from, widths_active, reason_of, consume_affecting};
+ghost use Rattle.rules.specs.Lent.{changes_in};
 ghost use Rattle.tabled.specs.Image.{Image, image_segments};
 ghost use Rattle.paired.specs.Tables.{Rows, ids_in, lacking};
-ghost use Rattle.paired.specs.Pairs.{splits_from, merges_from};
 ghost use Rattle.delta.specs.Bare.{bare};
-ghost use Rattle.delta.specs.Changed.{removed_from, delta_from};
+ghost use Rattle.delta.specs.Changed.{Lists, moved_from, delta_from, changed_from};
 
 use answers::{DagChangeReason, DagDelta};
+use types::lent::Changes;
 
 pub mod widths;
 
 // The first that applies, from how many there are of each.
+#[tactic(auto, using(answers::proofs::Judging::judging), unfolding(rules::specs::Delta::reason_of))]
 pub fn change_reason(splits: usize, merges: usize, removed: usize) -> DagChangeReason
     ensures { result ≡ reason_of splits merges removed }
 {
@@ -33,16 +34,11 @@ pub fn change_reason(splits: usize, merges: usize, removed: usize) -> DagChangeR
 }
 
 // Any split, merge or removal.
+#[tactic(auto, using(answers::proofs::Judging::judging), unfolding(rules::specs::Delta::consume_affecting))]
 pub fn is_consume_affecting(d: DagDelta) -> bool
     ensures { result ≡ consume_affecting d }
 {
-    if 0 < d.splits {
-        return true;
-    }
-    if 0 < d.merges {
-        return true;
-    }
-    0 < d.removed
+    0 < d.splits || 0 < d.merges || 0 < d.removed
 }
 
 // How many ids came and how many went, and how many hashes the new ones took over.
@@ -54,26 +50,22 @@ struct Moved {
 }
 
 // The ids that only the n new rows have, those that only the h old rows have, and the handover.
-fn write_moved(
-    rows: &[u64],
-    n: usize,
-    old: &[u64],
-    h: usize,
-    added: &mut [u64],
-    removed: &mut [u64],
-) -> Moved
-    requires rows { Rows rows.now n }
-    requires n_bound { widths_active (bare rows.now n) ≤ 65536 }
-    requires rows_2 { Rows old.now h }
-    requires n_in_bounds { n ≤ length added.old }
-    requires h_in_bounds { h ≤ length removed.old }
-    ensures added_value { result.added ≡ length (lacking (ids_in rows.now n) (ids_in old.now h)) }
-    ensures removed_value { result.removed ≡ length (lacking (ids_in old.now h) (ids_in rows.now n)) }
-    ensures handover_value { result.handover ≡ widths_active (added_from (ids_in old.now h) (bare rows.now n)) }
-    ensures added_after { added.new ≡ front (lacking (ids_in rows.now n) (ids_in old.now h)) added.old }
-    ensures removed_after { removed.new ≡ front (lacking (ids_in old.now h) (ids_in rows.now n)) removed.old }
+fn write_moved(rows: &[u64], n: usize, old: &[u64], h: usize, changes: &mut Changes) -> Moved
+    requires new_rows { Rows rows.now n }
+    requires widths_fit { widths_active (bare rows.now n) ≤ 65536 }
+    requires old_rows { Rows old.now h }
+    requires added_fit { n ≤ length changes.old.added.now }
+    requires removed_fit { h ≤ length changes.old.removed.now }
+    ensures added { result.added ≡ length (lacking (ids_in rows.now n) (ids_in old.now h)) }
+    ensures removed { result.removed ≡ length (lacking (ids_in old.now h) (ids_in rows.now n)) }
+    ensures handover { result.handover ≡ widths_active (added_from (ids_in old.now h) (bare rows.now n)) }
+    ensures same { SameChanges changes.old changes.new }
+    ensures written { changes_in changes.new ≡
+        moved_from (ids_in old.now h) (ids_in rows.now n) (changes_in changes.old) }
 {
+    let added = &mut *changes.added;
     let more = paired::ids::write_lacking(added, rows, n, old, h);
+    let removed = &mut *changes.removed;
     let fewer = paired::ids::write_lacking(removed, old, h, rows, n);
     Moved {
         added: more,
@@ -92,29 +84,23 @@ pub fn write_delta(
     epoch: u64,
     old: &[u64],
     h: usize,
-    added: &mut [u64],
-    removed: &mut [u64],
-    splits: &mut [u64],
-    merges: &mut [u64],
+    changes: &mut Changes,
 ) -> DagDelta
     requires image { Image w.old n e }
-    requires e_bound { n * held_width + e ≤ at }
-    requires e_in_bounds { at + 3 * e ≤ length w.old }
+    requires image_before { n * held_width + e ≤ at }
+    requires work { at + 3 * e ≤ length w.old }
     requires widths_fit { widths_active (image_segments w.old n e) ≤ 65536 }
-    requires rows { Rows old.now h }
-    requires n_in_bounds { n ≤ length added.old }
-    requires h_in_bounds { h ≤ length removed.old }
-    requires e_in_bounds_2 { (2 * e ≤ length splits.old) × (2 * e ≤ length merges.old) }
+    requires old_rows { Rows old.now h }
+    requires lists_fit { Lists n e h (changes_in changes.old) }
     ensures value { result ≡ delta_from epoch (ids_in old.now h) (image_segments w.old n e) }
-    ensures added_after { added.new ≡ front (ids_of (added_from (ids_in old.now h) (image_segments w.old n e))) added.old }
-    ensures removed_after { removed.new ≡ front (removed_from (ids_in old.now h) (image_segments w.old n e)) removed.old }
-    ensures splits_after { splits.new ≡ front (pair_words (splits_from (ids_in old.now h) (image_segments w.old n e))) splits.old }
-    ensures merges_after { merges.new ≡ front (pair_words (merges_from (ids_in old.now h) (image_segments w.old n e))) merges.old }
-    ensures w_unchanged { take at w.new ≡ take at w.old }
+    ensures same { SameChanges changes.old changes.new }
+    ensures written { changes_in changes.new ≡
+        changed_from (ids_in old.now h) (image_segments w.old n e) (changes_in changes.old) }
+    ensures image_stays { take at w.new ≡ take at w.old }
 {
     let k = n * rules::HELD;
-    let moved = write_moved(&w[0..k], n, old, h, added, removed);
-    let paired = paired::write_paired(w, n, e, at, old, h, splits, merges);
+    let moved = write_moved(&w[0..k], n, old, h, changes);
+    let paired = paired::write_paired(w, n, e, at, old, h, changes);
     DagDelta {
         epoch,
         added: moved.added,

@@ -29,7 +29,11 @@ fn handed_over(rows: &[u64], w: usize, old: &[u64], h: usize) -> u64
     if paired::ids::is_held(old, h, rows[w]) {
         return 0;
     }
-    active_width(rows[w + 3], rows[w + 1], rows[w + 2])
+    active_width(
+        rows[w + rules::STATE],
+        rows[w + rules::START],
+        rows[w + rules::END],
+    )
 }
 
 // Over all n rows. An accepted layout's Active rows have 65536 hashes together, so no sum can wrap.
@@ -40,10 +44,8 @@ pub fn handover(rows: &[u64], n: usize, old: &[u64], h: usize) -> u64
     ensures { result ≡ widths_active (added_from (ids_in old.now h) (bare rows.now n)) }
 {
     let mut sum = 0;
-    let mut i = 0;
-    while i < n {
+    for i in 0..n {
         sum += handed_over(rows, i * rules::HELD, old, h);
-        i += 1;
     }
     sum
 }

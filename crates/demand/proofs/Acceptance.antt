@@ -8,7 +8,7 @@ use mathlib.Core.List.{List}
 use lib.ListN.{length}
 use Rattle.answers.specs.declared.DagDelta.{DagDelta}
 use Rattle.answers.specs.Answer as J
-use Rattle.answers.specs.declared.Updated.TheVariants as U
+use Rattle.answers.specs.Updates as U
 use Rattle.answers.specs.Answer.{when, ◌then◌, Judged, Refused}
 use Rattle.answers.proofs.Judging.{or_left}
 use Rattle.types.specs.declared.limits.DagLimits.{DagLimits}

@@ -8,8 +8,8 @@ use Rattle.std.specs.Prelude.{ℕ, suc, ◌+◌, ◌/◌, ◌<◌, ◌≡◌, �
 use Rattle.lists.specs.Lists.{has, front, ◌∈◌, ◌∉◌}
 use Rattle.lists.specs.Sets.{Ascending}
 use Rattle.answers.specs.declared.DagDelta.{DagDelta}
-use Rattle.answers.specs.declared.Updated.TheVariants as U
 use Rattle.answers.specs.Verdict as E
+use Rattle.answers.specs.Updates as U
 use Rattle.types.specs.declared.limits.DagLimits.{DagLimits}
 use Rattle.types.specs.declared.records.OrderingMode.{OrderingMode}
 use Rattle.types.specs.declared.records.Session.{Session}

@@ -1,8 +1,8 @@
 -- Parts of the rule of an update that have a function of their own.
 -- Assumes nothing.
 use Rattle.std.specs.Prelude.{ℕ, true, cond}
-use Rattle.answers.specs.declared.Updated.{Updated}
-use Rattle.answers.specs.declared.Updated.TheVariants.{Refused, Stale, Accepted}
+use Rattle.answers.specs.Updates.{UpdateAnswer}
+use Rattle.answers.specs.Updates.{Refused, Stale, Accepted}
 use Rattle.types.specs.declared.records.Name.{Name}
 use Rattle.types.specs.declared.records.Session.{Session}
 use Rattle.types.specs.declared.records.Update.{Update}
@@ -27,7 +27,7 @@ session_holding s u n e =
     }
 
 -- only an accepted update changes the session
-abbrev pub session_if : Updated → Session → Session → Session
+abbrev pub session_if : UpdateAnswer → Session → Session → Session
 session_if (Refused r) new old = old
 session_if Stale new old = old
 session_if (Accepted d) new old = new

@@ -20,6 +20,7 @@ fn text_or_none(name: Name) -> u64
 }
 
 // 41, 42: an update without a layout. Beside a layout an error is ignored.
+#[tactic(auto, unfolding(rules::specs::Update::body_rule))]
 fn judge_body(update: Update) -> Result<(), Refusal>
     ensures { result ≡ body_rule update }
 {
@@ -38,6 +39,7 @@ fn judge_body(update: Update) -> Result<(), Refusal>
 }
 
 // 40, then 41 or 42.
+#[tactic(auto, unfolding(rules::specs::Update::address_rule))]
 pub fn judge_address(session: Session, update: Update) -> Result<(), Refusal>
     ensures { result ≡ address_rule session update }
 {
@@ -51,13 +53,11 @@ pub fn judge_address(session: Session, update: Update) -> Result<(), Refusal>
 }
 
 // An epoch at or below the held one. Before the first layout no update is stale.
+#[tactic(auto, unfolding(rules::specs::Update::is_stale))]
 pub fn is_stale(session: Session, update: Update) -> bool
     ensures { result ≡ is_stale session update }
 {
-    if session.held {
-        return update.epoch <= session.epoch;
-    }
-    false
+    session.held && update.epoch <= session.epoch
 }
 
 // An absent resolved name keeps the old one.
@@ -84,6 +84,7 @@ fn cleared_name(new: Name) -> Name
 }
 
 // The session that holds the layout of this update, n rows with e edge words.
+#[tactic(auto, unfolding(crate::specs::Parts::session_holding))]
 fn session_with(session: Session, update: Update, n: usize, e: usize) -> Session
     ensures { result ≡ session_holding session update n e }
 {
@@ -105,13 +106,12 @@ pub fn session_after(
     update: Update,
     n: usize,
     e: usize,
-    answer: Updated,
+    answer: Result<Updated, Refusal>,
 ) -> Session
     ensures { result ≡ session_if answer (session_holding session update n e) session }
 {
     match answer {
-        Updated::Refused(_) => session,
-        Updated::Stale => session,
-        Updated::Accepted(_) => session_with(session, update, n, e),
+        Ok(Updated::Accepted(_)) => session_with(session, update, n, e),
+        Ok(Updated::Stale) | Err(_) => session,
     }
 }

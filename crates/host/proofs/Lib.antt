@@ -1,4 +1,2 @@
 pub mod Spans
 pub mod Unique
-pub mod Updated
-pub mod Words

@@ -14,10 +14,10 @@ use Rattle.crossing.specs.declared.updated.UpdatedWords.{UpdatedWords}
 use Rattle.host.specs.Updates.{Told}
 
 pub told-one : (s : Session) (u : Update) (limits : DagLimits) (t : Tables) (work : List ℕ) (a : Areas) (c : Changes) (v v' : UpdatedWords) (z z' : Session)
-    (w w' r r' l l' o o' x x' y y' p p' m m' : List ℕ)
-    → Told s u limits t work a c v z w r l o x y p m
-    → Told s u limits t work a c v' z' w' r' l' o' x' y' p' m'
-    → (v ≡ v') × (z ≡ z') × (w ≡ w') × (r ≡ r') × (l ≡ l') × (o ≡ o') × (x ≡ x') × (y ≡ y') × (p ≡ p') × (m ≡ m')
-told-one s u limits t work a c v v' z z' w w' r r' l l' o o' x x' y y' p p' m m' one two =
-    let q = owed-one s u limits t work a c _ _ z z' w w' r r' l l' o o' x x' y y' p p' m m' one.owed two.owed in
-    (one.answer ∙ sym two.answer, q.1, q.2, q.3, q.4, q.5, q.6, q.7, q.8, q.9)
+    (w w' : List ℕ) (b b' : Areas) (l l' : Changes)
+    → Told s u limits t work a c v z w b l
+    → Told s u limits t work a c v' z' w' b' l'
+    → (v ≡ v') × (z ≡ z') × (w ≡ w') × (b ≡ b') × (l ≡ l')
+told-one s u limits t work a c v v' z z' w w' b b' l l' one two =
+    let q = owed-one s u limits t work a c _ _ z z' w w' b b' l l' one.owed two.owed in
+    (one.answer ∙ sym two.answer, q.1, q.2, q.3, q.4)

@@ -5,6 +5,7 @@ ghost use Rattle.layout.specs.Lent.{tables_of, areas_of, Owed};
 ghost use Rattle.crossing.specs.Told.{refusal_of};
 
 use answers::RefusalWords;
+use types::lent::{Areas, Layout};
 use types::limits::DagLimits;
 
 // `layout::judge_layout_with_limits`: the answer is that of the rule book, and every lent word afterwards is what an answer of the rule
@@ -22,11 +23,21 @@ pub extern "C" fn threshpetal_judge(
     links: &mut [u64],
     order: &mut [u64],
 ) -> RefusalWords
-    ensures value { result ≡ refusal_of (judgement epoch size limits (tables_of rows.now edges.now places.now) (length work.old) (areas_of held.old links.old order.old)) }
-    ensures owed { Owed epoch size limits (tables_of rows.now edges.now places.now) work.old (areas_of held.old links.old order.old) (judgement epoch size limits (tables_of rows.now edges.now places.now) (length work.old) (areas_of held.old links.old order.old)) work.new held.new links.new order.new }
+    ensures value { result ≡
+        refusal_of (judgement epoch size limits (tables_of rows.now edges.now places.now)
+        (length work.old) (areas_of held.old links.old order.old)) }
+    ensures owed { Owed epoch size limits (tables_of rows.now edges.now places.now)
+        work.old (areas_of held.old links.old order.old)
+        (judgement epoch size limits (tables_of rows.now edges.now places.now)
+        (length work.old) (areas_of held.old links.old order.old))
+        work.new (areas_of held.new links.new order.new) }
 {
-    let judged = layout::judge_layout_with_limits(
-        epoch, size, limits, rows, edges, places, work, held, links, order,
-    );
+    let layout = Layout {
+        rows,
+        edges,
+        places,
+    };
+    let mut areas = Areas { held, links, order };
+    let judged = layout::judge_layout_with_limits(epoch, size, limits, &layout, work, &mut areas);
     crossing::answer::refusal_of(judged)
 }

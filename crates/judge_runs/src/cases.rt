@@ -4,6 +4,7 @@ ghost use Rattle.std.specs.Prelude.{◌≤◌};
 use answers::Refusal;
 use shown::{SPARE, text, word};
 use std::io;
+use types::lent::{Areas, Layout};
 use types::limits::DagLimits;
 
 fn judged(rt: &impl Print, label: &[u8], j: Result<(), Refusal>) -> io::Result<()> {
@@ -28,16 +29,10 @@ fn worked(rt: &impl Print, work: &[u64]) -> io::Result<()> {
     text(rt, b"\n")
 }
 
-fn changed(
-    rt: &impl Print,
-    work: &[u64],
-    held: &[u64],
-    links: &[u64],
-    order: &[u64],
-) -> io::Result<()> {
-    count(rt, b"; changed: held rows", held)?;
-    count(rt, b", edges", links)?;
-    count(rt, b", order", order)?;
+fn changed(rt: &impl Print, work: &[u64], areas: &Areas) -> io::Result<()> {
+    count(rt, b"; changed: held rows", &*areas.held)?;
+    count(rt, b", edges", &*areas.links)?;
+    count(rt, b", order", &*areas.order)?;
     worked(rt, work)
 }
 
@@ -63,18 +58,14 @@ fn judge(
     rt: &impl Print,
     label: &[u8],
     epoch: u64,
-    rows: &[u64],
-    edges: &[u64],
-    places: &[u64],
+    layout: &Layout,
     work: &mut [u64],
-    held: &mut [u64],
-    links: &mut [u64],
-    order: &mut [u64],
+    areas: &mut Areas,
 ) -> io::Result<Ends> {
-    let j = layout::judge_layout(epoch, 60, rows, edges, places, work, held, links, order);
+    let j = layout::judge_layout(epoch, 60, layout, work, areas);
     judged(rt, label, j)?;
-    changed(rt, work, held, links, order)?;
-    Ok(ends_of(order))
+    changed(rt, work, areas)?;
+    Ok(ends_of(&*areas.order))
 }
 
 // The largest areas come from functions, so that no proof has their words before it.
@@ -90,71 +81,82 @@ fn spare_order() -> [u64; 4097] {
     [SPARE; 4097]
 }
 
+// How many words each area has.
+#[derive(Clone, Copy)]
+pub struct Room {
+    pub work: usize,
+    pub held: usize,
+    pub links: usize,
+    pub order: usize,
+    ghost work_fits: { work ≤ 131136 },
+    ghost held_fits: { held ≤ 61455 },
+    ghost links_fit: { links ≤ 514 },
+    ghost order_fits: { order ≤ 4097 },
+}
+
+impl Room {
+    pub fn new(work: usize, held: usize, links: usize, order: usize) -> Room
+        requires work_fits { work ≤ 131136 }
+        requires held_fits { held ≤ 61455 }
+        requires links_fit { links ≤ 514 }
+        requires order_fits { order ≤ 4097 }
+    {
+        Room {
+            work,
+            held,
+            links,
+            order,
+        }
+    }
+}
+
 // In areas of so many words.
 pub fn in_room(
     rt: &impl Print,
     label: &[u8],
     epoch: u64,
-    rows: &[u64],
-    edges: &[u64],
-    places: &[u64],
-    w: usize,
-    h: usize,
-    l: usize,
-    o: usize,
-) -> io::Result<Ends>
-    requires w_bound { w ≤ 131136 }
-    requires h_bound { h ≤ 61455 }
-    requires l_bound { l ≤ 514 }
-    requires o_bound { o ≤ 4097 }
-{
+    layout: &Layout,
+    room: Room,
+) -> io::Result<Ends> {
     let mut work = spare_work();
     let mut held = spare_rows();
     let mut links = [SPARE; 514];
     let mut order = spare_order();
-    judge(
-        rt,
-        label,
-        epoch,
-        rows,
-        edges,
-        places,
-        &mut work[..w],
-        &mut held[..h],
-        &mut links[..l],
-        &mut order[..o],
-    )
+    let mut areas = Areas {
+        held: &mut held[..room.held],
+        links: &mut links[..room.links],
+        order: &mut order[..room.order],
+    };
+    judge(rt, label, epoch, layout, &mut work[..room.work], &mut areas)
 }
 
 // In room for three rows and eight edge words.
-pub fn usual(
+pub fn usual(rt: &impl Print, label: &[u8], epoch: u64, layout: &Layout) -> io::Result<()> {
+    in_room(rt, label, epoch, layout, Room::new(384, 45, 8, 3))?;
+    Ok(())
+}
+
+// Segments with these edges, and no placement.
+pub fn linked(
     rt: &impl Print,
     label: &[u8],
     epoch: u64,
     rows: &[u64],
     edges: &[u64],
-    places: &[u64],
 ) -> io::Result<()> {
-    in_room(rt, label, epoch, rows, edges, places, 384, 45, 8, 3)?;
-    Ok(())
+    let none = [0u64; 0];
+    let layout = Layout {
+        rows,
+        edges,
+        places: &none,
+    };
+    usual(rt, label, epoch, &layout)
 }
 
 // One segment, with no edges and no placement.
 pub fn alone(rt: &impl Print, label: &[u8], row: [u64; 11]) -> io::Result<()> {
     let none = [0u64; 0];
-    usual(rt, label, 0, &row, &none, &none)
-}
-
-// Two segments, with no placement.
-pub fn pair(
-    rt: &impl Print,
-    label: &[u8],
-    epoch: u64,
-    rows: [u64; 22],
-    edges: &[u64],
-) -> io::Result<()> {
-    let none = [0u64; 0];
-    usual(rt, label, epoch, &rows, edges, &none)
+    linked(rt, label, 0, &row, &none)
 }
 
 // Under the caller's limits, in the same room.
@@ -167,15 +169,23 @@ pub fn limited(
     edges: &[u64],
 ) -> io::Result<()> {
     let none = [0u64; 0];
+    let layout = Layout {
+        rows,
+        edges,
+        places: &none,
+    };
     let mut work = [SPARE; 384];
     let mut held = [SPARE; 45];
     let mut links = [SPARE; 8];
     let mut order = [SPARE; 3];
-    let j = layout::judge_layout_with_limits(
-        epoch, 60, limits, rows, edges, &none, &mut work, &mut held, &mut links, &mut order,
-    );
+    let mut areas = Areas {
+        held: &mut held,
+        links: &mut links,
+        order: &mut order,
+    };
+    let j = layout::judge_layout_with_limits(epoch, 60, limits, &layout, &mut work, &mut areas);
     judged(rt, label, j)?;
-    changed(rt, &work, &held, &links, &order)
+    changed(rt, &work, &areas)
 }
 
 pub fn order_from(rt: &impl Print, e: Ends) -> io::Result<()> {

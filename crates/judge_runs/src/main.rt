@@ -2,9 +2,9 @@
 // of the lent areas were changed. The areas are filled with a word that no table has, so that a changed word can be seen.
 #![tactic(auto)]
 
-ghost use Rattle.std.specs.Prelude.{◌≤◌};
-
+use cases::Room;
 use std::io;
+use types::lent::Layout;
 use types::limits::DagLimits;
 
 mod cases;
@@ -29,14 +29,19 @@ const ONE_EDGE: DagLimits = DagLimits {
 
 fn no_rows(rt: &impl Print) -> io::Result<()> {
     let none = [0u64; 0];
-    cases::usual(rt, b"no rows:", 0, &none, &none, &none)
+    cases::linked(rt, b"no rows:", 0, &none, &none)
 }
 
 fn placed_twice(rt: &impl Print) -> io::Result<()> {
     let none = [0u64; 0];
     let full = tables::FULL;
     let twice = [1, 5, 0, 0, 1, 0, 0, 0u64];
-    cases::usual(rt, b"two placements of one id:", 0, &full, &none, &twice)
+    let layout = Layout {
+        rows: &full,
+        edges: &none,
+        places: &twice,
+    };
+    cases::usual(rt, b"two placements of one id:", 0, &layout)
 }
 
 fn ones(rt: &impl Print) -> io::Result<()> {
@@ -51,29 +56,22 @@ fn ones(rt: &impl Print) -> io::Result<()> {
 
 fn overlapping(rt: &impl Print) -> io::Result<()> {
     let none = [0u64; 0];
-    cases::pair(rt, b"ids 1 and 2 both 0..65535:", 0, tables::BOTH, &none)
+    let rows = tables::BOTH;
+    cases::linked(rt, b"ids 1 and 2 both 0..65535:", 0, &rows, &none)
 }
 
 fn ring(rt: &impl Print) -> io::Result<()> {
+    let rows = tables::RING;
     let links = tables::RING_LINKS;
-    cases::pair(
-        rt,
-        b"two Sealed, each the other's parent and child:",
-        1,
-        tables::RING,
-        &links,
-    )
+    let label = b"two Sealed, each the other's parent and child:";
+    cases::linked(rt, label, 1, &rows, &links)
 }
 
 fn short_ring(rt: &impl Print) -> io::Result<()> {
+    let rows = tables::RING;
     let links = tables::RING_LINKS;
-    cases::pair(
-        rt,
-        b"the same, the edge table one word short:",
-        1,
-        tables::RING,
-        &links[0..3],
-    )
+    let label = b"the same, the edge table one word short:";
+    cases::linked(rt, label, 1, &rows, &links[0..3])
 }
 
 // ---- chains of two and three under limits
@@ -99,25 +97,25 @@ fn chains(rt: &impl Print) -> io::Result<()> {
 
 // ---- room: a chain of two needs 128 words of work, 30 of held rows, 2 of held edges and 2 of order
 
-fn two_in(rt: &impl Print, label: &[u8], w: usize, h: usize, l: usize, o: usize) -> io::Result<()>
-    requires w_bound { w ≤ 131136 }
-    requires h_bound { h ≤ 61455 }
-    requires l_bound { l ≤ 514 }
-    requires o_bound { o ≤ 4097 }
-{
+fn two_in(rt: &impl Print, label: &[u8], room: Room) -> io::Result<()> {
     let none = [0u64; 0];
     let rows = tables::TWO;
     let edges = tables::TWO_LINKS;
-    cases::in_room(rt, label, 1, &rows, &edges, &none, w, h, l, o)?;
+    let layout = Layout {
+        rows: &rows,
+        edges: &edges,
+        places: &none,
+    };
+    cases::in_room(rt, label, 1, &layout, room)?;
     Ok(())
 }
 
 fn rooms(rt: &impl Print) -> io::Result<()> {
-    two_in(rt, b"exact room:", 128, 30, 2, 2)?;
-    two_in(rt, b"work one word short:", 127, 30, 2, 2)?;
-    two_in(rt, b"held rows one word short:", 128, 29, 2, 2)?;
-    two_in(rt, b"held edges one word short:", 128, 30, 1, 2)?;
-    two_in(rt, b"order one word short:", 128, 30, 2, 1)
+    two_in(rt, b"exact room:", Room::new(128, 30, 2, 2))?;
+    two_in(rt, b"work one word short:", Room::new(127, 30, 2, 2))?;
+    two_in(rt, b"held rows one word short:", Room::new(128, 29, 2, 2))?;
+    two_in(rt, b"held edges one word short:", Room::new(128, 30, 1, 2))?;
+    two_in(rt, b"order one word short:", Room::new(128, 30, 2, 1))
 }
 
 // ---- tables that loops fill
@@ -127,18 +125,13 @@ fn deepest_chain(rt: &impl Print) -> io::Result<()> {
     let mut rows = [0u64; 2827];
     let mut edges = [0u64; 512];
     filled::chain(&mut rows, &mut edges, 256, 2816);
-    let ends = cases::in_room(
-        rt,
-        b"chain of 257:",
-        256,
-        &rows,
-        &edges,
-        &none,
-        24608,
-        3855,
-        512,
-        257,
-    )?;
+    let layout = Layout {
+        rows: &rows,
+        edges: &edges,
+        places: &none,
+    };
+    let room = Room::new(24608, 3855, 512, 257);
+    let ends = cases::in_room(rt, b"chain of 257:", 256, &layout, room)?;
     cases::order_from(rt, ends)
 }
 
@@ -147,18 +140,13 @@ fn deeper_chain(rt: &impl Print) -> io::Result<()> {
     let mut rows = [0u64; 2838];
     let mut edges = [0u64; 514];
     filled::chain(&mut rows, &mut edges, 257, 2827);
-    cases::in_room(
-        rt,
-        b"chain of 258:",
-        257,
-        &rows,
-        &edges,
-        &none,
-        24704,
-        3870,
-        514,
-        258,
-    )?;
+    let layout = Layout {
+        rows: &rows,
+        edges: &edges,
+        places: &none,
+    };
+    let room = Room::new(24704, 3870, 514, 258);
+    cases::in_room(rt, b"chain of 258:", 257, &layout, room)?;
     Ok(())
 }
 
@@ -166,18 +154,13 @@ fn most_rows(rt: &impl Print) -> io::Result<()> {
     let none = [0u64; 0];
     let mut rows = [0u64; 45056];
     filled::actives(&mut rows, 4096);
-    let ends = cases::in_room(
-        rt,
-        b"4096 rows of 16 hashes:",
-        0,
-        &rows,
-        &none,
-        &none,
-        131072,
-        61440,
-        0,
-        4096,
-    )?;
+    let layout = Layout {
+        rows: &rows,
+        edges: &none,
+        places: &none,
+    };
+    let room = Room::new(131072, 61440, 0, 4096);
+    let ends = cases::in_room(rt, b"4096 rows of 16 hashes:", 0, &layout, room)?;
     cases::order_from(rt, ends)
 }
 
@@ -185,18 +168,13 @@ fn too_many_rows(rt: &impl Print) -> io::Result<()> {
     let none = [0u64; 0];
     let mut rows = [0u64; 45067];
     filled::actives(&mut rows, 4097);
-    cases::in_room(
-        rt,
-        b"4097 rows:",
-        0,
-        &rows,
-        &none,
-        &none,
-        131104,
-        61455,
-        0,
-        4097,
-    )?;
+    let layout = Layout {
+        rows: &rows,
+        edges: &none,
+        places: &none,
+    };
+    let room = Room::new(131104, 61455, 0, 4097);
+    cases::in_room(rt, b"4097 rows:", 0, &layout, room)?;
     Ok(())
 }
 
@@ -205,18 +183,13 @@ fn too_many_places(rt: &impl Print) -> io::Result<()> {
     let row = tables::FULL;
     let mut places = [0u64; 16388];
     filled::placements(&mut places, 4097);
-    cases::in_room(
-        rt,
-        b"4097 placements:",
-        0,
-        &row,
-        &none,
-        &places,
-        131136,
-        15,
-        0,
-        1,
-    )?;
+    let layout = Layout {
+        rows: &row,
+        edges: &none,
+        places: &places,
+    };
+    let room = Room::new(131136, 15, 0, 1);
+    cases::in_room(rt, b"4097 placements:", 0, &layout, room)?;
     Ok(())
 }
 

@@ -1,6 +1,6 @@
 -- 3 to 23 and then 24 to 35 are the rule book's chain; and what stands in the work area where the chain accepts.
 -- Assumes nothing.
-use Prim.Native.Nat.{ℕ, ◌+◌, ◌*◌, ◌≤◌}
+use Prim.Native.Nat.{ℕ, ◌+◌, ◌*◌, ◌≤◌, ◌<◌}
 use native.Mathlib.Omega.{arith}
 use mathlib.Core.Path.{◌≡◌, refl, sym, ◌∙◌}
 use mathlib.Core.List.{List}
@@ -13,35 +13,39 @@ use Rattle.rules.specs.Model.{Segment, Placement}
 use Rattle.rules.specs.Tables.{held_width, segments}
 use Rattle.rules.specs.Order.{order_of, order_words}
 use Rattle.rules.specs.Layout.{graph_rule, layout_rule}
+use Rattle.rules.specs.Judge.{Tables, segments_in}
 use Rattle.tabled.proofs.Kept.{rows-kept, edges-kept, segments-kept, image-kept}
 use Rattle.incoming.specs.Incoming.{incoming_rule, Given}
 use Rattle.incoming.proofs.Chains.{layout_is, incoming-empty}
 use Rattle.incoming.proofs.Counts.{segments-count}
-use Rattle.layout.specs.Laid.{Fit, ImageOf, LaidOut, order_at, graph_chain}
+use Rattle.layout.specs.Laid.{row_count, place_count, edge_count, image_len, HasWork, Fit, ImageOf, LaidOut, order_at, graph_chain}
 use Rattle.answers.specs.declared.Refusal.TheVariants.{NoActiveSegments}
 
 -- what was judged behind the image left it as it was
-pub laid_out : (w₁ w₂ : List ℕ) (n e depth : ℕ) (ss : List Segment) (ps : List Placement) → ImageOf w₁ n e ss ps
-    → take (n * held_width + e) w₂ ≡ take (n * held_width + e) w₁ → length w₂ ≡ length w₁ → order_at n e + n ≤ length w₁
-    → part w₂ (order_at n e) n ≡ order_words (order_of depth ss) → LaidOut w₂ n e depth ss ps
-laid_out w₁ w₂ n e depth ss ps im kept same fits order =
-    let room : n * held_width + e ≤ n * held_width + e = omega arith in
+pub laid_out : (w₁ w₂ : List ℕ) (t : Tables) (depth : ℕ) → ImageOf w₁ t
+    → take (image_len (row_count t) (edge_count t)) w₂ ≡ take (image_len (row_count t) (edge_count t)) w₁ → length w₂ ≡ length w₁
+    → HasWork t (length w₁) → 0 < row_count t
+    → part w₂ (order_at (row_count t) (edge_count t)) (row_count t) ≡ order_words (order_of depth (segments_in t)) → LaidOut w₂ t depth
+laid_out w₁ w₂ t depth im kept same fits some order =
+    let n : ℕ = row_count t in
+    let e : ℕ = edge_count t in
+    let room : n * held_width + e ≤ image_len n e = omega arith in
     record {
       imaged =
           record {
-            image = image-kept w₂ w₁ (n * held_width + e) kept n e room same im.image;
-            segments = segments-kept w₂ w₁ (n * held_width + e) kept n e room ∙ im.segments;
-            rows = rows-kept w₂ w₁ (n * held_width + e) kept n e room ∙ im.rows;
-            edges = edges-kept w₂ w₁ (n * held_width + e) kept n e room ∙ im.edges;
+            image = image-kept w₂ w₁ (image_len n e) kept n e room same im.image;
+            segments = segments-kept w₂ w₁ (image_len n e) kept n e room ∙ im.segments;
+            rows = rows-kept w₂ w₁ (image_len n e) kept n e room ∙ im.rows;
+            edges = edges-kept w₂ w₁ (image_len n e) kept n e room ∙ im.edges;
           };
       order = order;
       order-in = omega arith;
     }
 
 -- the room that 01 grants is enough for the first stage
-pub given : (w rows edges places : List ℕ) (n m : ℕ) → Fit rows n edges places m (length w) → Given w rows n edges places m
-given w rows edges places n m f =
-    record { segments = f.rows_in; links = f.counts; placements = f.places-in; room = omega (arith, f.room) }
+pub given : (w : List ℕ) (t : Tables) → Fit t (length w) → Given w t.rows (row_count t) t.edges t.places (place_count t)
+given w t f =
+    record { segments = omega arith; links = f.counts; placements = omega arith; room = omega (arith, f.room) }
 
 module _ (epoch size : ℕ) (limits : DagLimits) (ss : List Segment) (ps : List Placement) (x : Judged) (said : x ≡ incoming_rule epoch size limits ss ps) where
   pub refused-early : (r : Refusal) → x ≡ Refused r → x ≡ layout_rule epoch size limits ss ps

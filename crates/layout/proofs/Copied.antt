@@ -6,36 +6,32 @@ use mathlib.Core.Path.{◌≡◌}
 use mathlib.Core.List.{List, ◌++◌}
 use lib.ListN.{length}
 use Rattle.words.specs.Part.{put}
-use Rattle.words.specs.Twins.{NoTwins}
 use Rattle.rules.specs.Model.{Placement}
-use Rattle.rules.specs.Tables.{row_width, held_width, edges_from, segments, placements, held_rows, held_edges}
-use Rattle.image.specs.Written.{Ready}
+use Rattle.rules.specs.Tables.{held_rows, held_edges}
 use Rattle.image.proofs.Laid.{image-rows, image-edges, image-segments, image-laid}
 use Rattle.answers.specs.declared.Refusal.{Refusal}
-use Rattle.layout.specs.Laid.{ImageOf}
-use Rattle.rules.specs.Judge.{areas_after}
+use Rattle.layout.specs.Laid.{row_count, edge_count, image_len, Indexed, ImageOf}
+use Rattle.rules.specs.Judge.{Tables, Areas, segments_in, placements_in, areas_after}
 use Rattle.answers.specs.Answer.{Judged, Accepted, Refused}
 
-module _ (w₀ w table edges places : List ℕ) (n m : ℕ) (all : edges_from row_width table n 0 ≡ length edges) (once : NoTwins table row_width n)
-    (ready : Ready w₀ table n places m (n * held_width + length edges) (n * held_width + length edges + 3 * n))
-    (laid : w ≡ put w₀ 0 (n * held_width + length edges) (held_rows (segments table edges n) (placements places m) ++ held_edges (segments table edges n) (placements places m))) where
-  room : n * held_width + length edges ≤ length w₀
-  room = omega (arith, ready.room)
-
-  pub imaged : ImageOf w n (length edges) (segments table edges n) (placements places m)
-  imaged =
-      let ps : List Placement = placements places m in
-      record {
-        image = image-laid w₀ w table edges n ps all room laid once;
-        segments = image-segments w₀ w table edges n ps all room laid;
-        rows = image-rows w₀ w table edges n ps all room laid;
-        edges = image-edges w₀ w table edges n ps all room laid;
-      }
+pub imaged : (w₀ w : List ℕ) (t : Tables) → Indexed w₀ t
+    → w ≡ put w₀ 0 (image_len (row_count t) (edge_count t)) (held_rows (segments_in t) (placements_in t) ++ held_edges (segments_in t) (placements_in t))
+    → ImageOf w t
+imaged w₀ w t i laid =
+    let n : ℕ = row_count t in
+    let ps : List Placement = placements_in t in
+    let room : image_len n (edge_count t) ≤ length w₀ = omega (arith, i.ready.room) in
+    record {
+      image = image-laid w₀ w t.rows t.edges n ps i.counts room laid i.no-twins;
+      segments = image-segments w₀ w t.rows t.edges n ps i.counts room laid;
+      rows = image-rows w₀ w t.rows t.edges n ps i.counts room laid;
+      edges = image-edges w₀ w t.rows t.edges n ps i.counts room laid;
+    }
 
 -- ---- where a layout was refused nothing changes; where it was accepted its words come in
 
-pub refused-keeps : (j : Judged) (r : Refusal) (new old : List ℕ) → j ≡ Refused r → old ≡ areas_after j new old
+pub refused-keeps : (j : Judged) (r : Refusal) (new old : Areas) → j ≡ Refused r → old ≡ areas_after j new old
 refused-keeps j r new old told = rw told
 
-pub accepted-takes : (j : Judged) (v new old : List ℕ) → j ≡ Accepted → v ≡ new → v ≡ areas_after j new old
+pub accepted-takes : (j : Judged) (v new old : Areas) → j ≡ Accepted → v ≡ new → v ≡ areas_after j new old
 accepted-takes j v new old told e = rw (told, e)

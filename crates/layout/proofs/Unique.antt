@@ -8,8 +8,6 @@ use Rattle.rules.specs.Judge.{Tables, Areas}
 use Rattle.layout.specs.Lent.{Owed}
 use Rattle.answers.specs.Answer.{Judged}
 
-pub owed-one : (epoch size : ℕ) (limits : DagLimits) (t : Tables) (work : List ℕ) (a : Areas) (v v' : Judged) (w w' h h' l l' o o' : List ℕ)
-    → Owed epoch size limits t work a v w h l o → Owed epoch size limits t work a v' w' h' l' o'
-    → (v ≡ v') × (w ≡ w') × (h ≡ h') × (l ≡ l') × (o ≡ o')
-owed-one epoch size limits t work a v v' w w' h h' l l' o o' p q =
-    (p.answer ∙ sym q.answer, p.cleared ∙ sym q.cleared, p.rows-held ∙ sym q.rows-held, p.edges-held ∙ sym q.edges-held, p.order-held ∙ sym q.order-held)
+pub owed-one : (epoch size : ℕ) (limits : DagLimits) (t : Tables) (work : List ℕ) (a : Areas) (v v' : Judged) (w w' : List ℕ) (b b' : Areas)
+    → Owed epoch size limits t work a v w b → Owed epoch size limits t work a v' w' b' → (v ≡ v') × (w ≡ w') × (b ≡ b')
+owed-one epoch size limits t work a v v' w w' b b' p q = (p.answer ∙ sym q.answer, p.cleared ∙ sym q.cleared, p.areas ∙ sym q.areas)

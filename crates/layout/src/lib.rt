@@ -3,53 +3,52 @@
 #![tactic(auto)]
 
 ghost use Rattle.std.specs.Prelude.{◌≡◌, ◌+◌, ◌*◌, ◌≤◌, ◌<◌, length, replicate};
-ghost use Rattle.lists.specs.Lists.{front};
-ghost use Rattle.words.specs.Part.{part};
 ghost use Rattle.answers.specs.Answer.{Accepted};
-ghost use Rattle.words.specs.Twins.{NoTwins};
-ghost use Rattle.rules.specs.Tables.{row_width, held_width, default_limits, edges_from, segments, placements};
-ghost use Rattle.rules.specs.Judge.{areas_after};
-ghost use Rattle.tabled.specs.Image.{image_rows, image_edges};
-ghost use Rattle.image.specs.Written.{Ready};
+ghost use Rattle.types.specs.Lent.{SameAreas};
+ghost use Rattle.rules.specs.Tables.{default_limits};
+ghost use Rattle.rules.specs.Judge.{areas_after, segments_in, placements_in};
+ghost use Rattle.rules.specs.Lent.{tables_in, areas_in};
 ghost use Rattle.rules.specs.Layout.{layout_rule};
-ghost use Rattle.layout.specs.Laid.{Fit, ImageOf, LaidOut, order_at, graph_chain};
-ghost use Rattle.layout.specs.Lent.{tables_of, areas_of, Owed};
+ghost use Rattle.layout.specs.Laid.{row_count, HasWork, Fit, Indexed, ImageOf, LaidOut, Holds, order_at, graph_chain, stored_from};
+ghost use Rattle.layout.specs.Lent.{Owed};
 
 use answers::Refusal;
+use types::lent::{Areas, Layout};
 use types::limits::DagLimits;
 
 // The image of the layout, written over its indexes' front.
-fn lay_out(w: &mut [u64], rows: &[u64], n: usize, edges: &[u64], places: &[u64], m: usize)
-    requires counts_match { edges_from row_width rows.now n 0 ≡ length edges.now }
-    requires no_twins { NoTwins rows.now row_width n }
-    requires ready { Ready w.old rows.now n places.now m (n * held_width + length edges.now) (n * held_width + length edges.now + 3 * n) }
-    ensures image_of { ImageOf w.new n (length edges.now) (segments rows.now edges.now n) (placements places.now m) }
-    ensures w_len_unchanged { length w.new ≡ length w.old }
+fn lay_out(w: &mut [u64], layout: &Layout)
+    requires { Indexed w.old (tables_in layout.now) }
+    ensures image_of { ImageOf w.new (tables_in layout.now) }
+    ensures same_length { length w.new ≡ length w.old }
 {
-    let a = n * rules::HELD + edges.len();
-    image::write_image(w, rows, n, edges, places, m, a, a + 3 * n);
+    let n = layout.rows.len() / rules::ROW;
+    let m = layout.places.len() / rules::PLACE;
+    let a = n * rules::HELD + layout.edges.len();
+    image::write_image(
+        w,
+        layout.rows,
+        n,
+        layout.edges,
+        layout.places,
+        m,
+        a,
+        a + 3 * n,
+    );
 }
 
 // 24 to 35 of a layout whose rows have passed 3 to 23 and whose indexes stand in the work area.
-fn judge_laid(
-    w: &mut [u64],
-    rows: &[u64],
-    n: usize,
-    edges: &[u64],
-    places: &[u64],
-    m: usize,
-    depth: u64,
-) -> Result<(), Refusal>
-    requires counts_match { edges_from row_width rows.now n 0 ≡ length edges.now }
-    requires no_twins { NoTwins rows.now row_width n }
-    requires ready { Ready w.old rows.now n places.now m (n * held_width + length edges.now) (n * held_width + length edges.now + 3 * n) }
-    requires n_nonzero { (0 < n) × (32 * (n + m + length edges.now) ≤ length w.old) }
-    ensures value { result ≡ graph_chain depth (segments rows.now edges.now n) }
-    ensures laid_out { result ≡ Accepted → LaidOut w.new n (length edges.now) depth (segments rows.now edges.now n) (placements places.now m) }
-    ensures w_len_unchanged { length w.new ≡ length w.old }
+fn judge_laid(w: &mut [u64], layout: &Layout, depth: u64) -> Result<(), Refusal>
+    requires indexed { Indexed w.old (tables_in layout.now) }
+    requires rows { 0 < row_count (tables_in layout.now) }
+    requires room { HasWork (tables_in layout.now) (length w.old) }
+    ensures value { result ≡ graph_chain depth (segments_in (tables_in layout.now)) }
+    ensures laid_out { result ≡ Accepted → LaidOut w.new (tables_in layout.now) depth }
+    ensures same_length { length w.new ≡ length w.old }
 {
-    lay_out(w, rows, n, edges, places, m);
-    imaged::judge_image(w, n, edges.len(), rows, edges, depth)
+    lay_out(w, layout);
+    let n = layout.rows.len() / rules::ROW;
+    imaged::judge_image(w, n, layout.edges.len(), layout.rows, layout.edges, depth)
 }
 
 // 3 to 35, in the work area. An accepted layout stands at its front, and its order behind it.
@@ -58,36 +57,46 @@ pub fn judge_in(
     epoch: u64,
     size: u64,
     limits: DagLimits,
-    rows: &[u64],
-    n: usize,
-    edges: &[u64],
-    places: &[u64],
-    m: usize,
+    layout: &Layout,
 ) -> Result<(), Refusal>
-    requires { Fit rows.now n edges.now places.now m (length w.old) }
-    ensures value { result ≡ layout_rule epoch size limits (segments rows.now edges.now n) (placements places.now m) }
-    ensures laid_out { result ≡ Accepted → LaidOut w.new n (length edges.now) limits.depth (segments rows.now edges.now n) (placements places.now m) }
-    ensures w_len_unchanged { length w.new ≡ length w.old }
+    requires { Fit (tables_in layout.now) (length w.old) }
+    ensures value { result ≡
+        layout_rule epoch size limits (segments_in (tables_in layout.now))
+        (placements_in (tables_in layout.now)) }
+    ensures laid_out { result ≡ Accepted → LaidOut w.new (tables_in layout.now) limits.depth }
+    ensures same_length { length w.new ≡ length w.old }
 {
     let depth = limits.depth;
-    incoming::judge_incoming(w, epoch, size, limits, rows, n, edges, places, m)?;
+    let n = layout.rows.len() / rules::ROW;
+    let m = layout.places.len() / rules::PLACE;
+    incoming::judge_incoming(
+        w,
+        epoch,
+        size,
+        limits,
+        layout.rows,
+        n,
+        layout.edges,
+        layout.places,
+        m,
+    )?;
     if n == 0 {
         return Err(Refusal::NoActiveSegments);
     }
-    judge_laid(w, rows, n, edges, places, m, depth)
+    judge_laid(w, layout, depth)
 }
 
 // An accepted layout goes from the work area to the held areas, and its order to the order list.
-pub fn store(w: &[u64], n: usize, e: usize, held: &mut [u64], links: &mut [u64], order: &mut [u64])
-    requires n_in_bounds { order_at n e + n ≤ length w.now }
-    requires held_width_in_bounds { n * held_width ≤ length held.old }
-    requires e_in_bounds { e ≤ length links.old }
-    requires n_in_bounds_2 { n ≤ length order.old }
-    ensures held_after { held.new ≡ front (image_rows w.now n) held.old }
-    ensures links_after { links.new ≡ front (image_edges w.now n e) links.old }
-    ensures order_after { order.new ≡ front (part w.now (order_at n e) n) order.old }
+pub fn store(w: &[u64], n: usize, e: usize, areas: &mut Areas)
+    requires order_in { order_at n e + n ≤ length w.now }
+    requires room { Holds n e (areas_in areas.old) }
+    ensures same { SameAreas areas.old areas.new }
+    ensures stored { areas_in areas.new ≡ stored_from w.now n e (areas_in areas.old) }
 {
+    let held = &mut *areas.held;
+    let links = &mut *areas.links;
     image::store_image(w, n, e, held, links);
+    let order = &mut *areas.order;
     let from = n * rules::HELD + e + 4 * n;
     let to = from + n;
     words::copy_into(order, 0, &w[from..to]);
@@ -99,27 +108,21 @@ fn finish(
     w: &mut [u64],
     n: usize,
     e: usize,
-    held: &mut [u64],
-    links: &mut [u64],
-    order: &mut [u64],
+    areas: &mut Areas,
 ) -> Result<(), Refusal>
-    requires n_in_bounds { judged ≡ Accepted → order_at n e + n ≤ length w.old }
-    requires held_width_in_bounds { n * held_width ≤ length held.old }
-    requires e_in_bounds { e ≤ length links.old }
-    requires n_in_bounds_2 { n ≤ length order.old }
+    requires order_in { judged ≡ Accepted → order_at n e + n ≤ length w.old }
+    requires room { Holds n e (areas_in areas.old) }
     ensures value { result ≡ judged }
-    ensures w_after { w.new ≡ replicate (length w.old) 0 }
-    ensures held_after { held.new ≡ areas_after judged (front (image_rows w.old n) held.old) held.old }
-    ensures links_after { links.new ≡ areas_after judged (front (image_edges w.old n e) links.old) links.old }
-    ensures order_after { order.new ≡ areas_after judged (front (part w.old (order_at n e) n) order.old) order.old }
+    ensures cleared { w.new ≡ replicate (length w.old) 0 }
+    ensures same { SameAreas areas.old areas.new }
+    ensures stored { areas_in areas.new ≡
+        areas_after judged (stored_from w.old n e (areas_in areas.old)) (areas_in areas.old) }
 {
-    let Ok(()) = judged else {
-        words::clear(w);
-        return judged;
-    };
-    store(w, n, e, held, links, order);
+    if judged.is_ok() {
+        store(w, n, e, areas);
+    }
     words::clear(w);
-    Ok(())
+    judged
 }
 
 // The judge. 1 and 2 leave every lent word as it was; past them the work area is cleared; only an accepted layout is stored.
@@ -127,60 +130,37 @@ pub fn judge_layout_with_limits(
     epoch: u64,
     size: u64,
     limits: DagLimits,
-    rows: &[u64],
-    edges: &[u64],
-    places: &[u64],
+    layout: &Layout,
     work: &mut [u64],
-    held: &mut [u64],
-    links: &mut [u64],
-    order: &mut [u64],
+    areas: &mut Areas,
 ) -> Result<(), Refusal>
-    ensures { Owed epoch size limits (tables_of rows.now edges.now places.now) work.old (areas_of held.old links.old order.old) result work.new held.new links.new order.new }
+    ensures same { SameAreas areas.old areas.new }
+    ensures owed { Owed epoch size limits (tables_in layout.now) work.old (areas_in areas.old)
+        result work.new (areas_in areas.new) }
 {
-    if shape::tables::is_bad_layout(rows, edges, places) {
+    if shape::tables::is_bad_layout(layout.rows, layout.edges, layout.places) {
         return Err(Refusal::BadTable);
     }
-    let n = rows.len() / rules::ROW;
-    let m = places.len() / rules::PLACE;
-    if shape::room::lacks_room_to_judge(
-        work.len(),
-        held.len(),
-        links.len(),
-        order.len(),
-        n,
-        m,
-        edges.len(),
-    ) {
+    if shape::room::lacks_room_to_judge(layout, work.len(), areas) {
         return Err(Refusal::NoRoom);
     }
-    let judged = judge_in(work, epoch, size, limits, rows, n, edges, places, m);
-    finish(judged, work, n, edges.len(), held, links, order)
+    let judged = judge_in(work, epoch, size, limits, layout);
+    let n = layout.rows.len() / rules::ROW;
+    finish(judged, work, n, layout.edges.len(), areas)
 }
 
 // The judge under the default limits.
 pub fn judge_layout(
     epoch: u64,
     size: u64,
-    rows: &[u64],
-    edges: &[u64],
-    places: &[u64],
+    layout: &Layout,
     work: &mut [u64],
-    held: &mut [u64],
-    links: &mut [u64],
-    order: &mut [u64],
+    areas: &mut Areas,
 ) -> Result<(), Refusal>
-    ensures { Owed epoch size default_limits (tables_of rows.now edges.now places.now) work.old (areas_of held.old links.old order.old) result work.new held.new links.new order.new }
+    ensures same { SameAreas areas.old areas.new }
+    ensures owed { Owed epoch size default_limits
+        (tables_in layout.now) work.old (areas_in areas.old)
+        result work.new (areas_in areas.new) }
 {
-    judge_layout_with_limits(
-        epoch,
-        size,
-        DagLimits::DEFAULT,
-        rows,
-        edges,
-        places,
-        work,
-        held,
-        links,
-        order,
-    )
+    judge_layout_with_limits(epoch, size, DagLimits::DEFAULT, layout, work, areas)
 }

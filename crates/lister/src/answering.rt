@@ -5,18 +5,18 @@ use crate::tables::Tables;
 use crate::{Standing, tables};
 use held::HeldTables;
 use std::io;
-use types::lent::{History, Lists};
+use types::lent::{Areas, Changes, History, Layout, Lists};
 use types::records::{OrderingMode, SegmentId, Session};
 
 // The update that `.` ends: its answer is printed, and the session after it handed back.
 pub fn end_update(rt: &impl Print, at: Standing, tables: &mut Tables) -> io::Result<Session>
     ensures { IsKept at.edges tables.old tables.new }
 {
-    let session = at.session;
-    let update = at.update;
-    let rows = tables::first(&tables.rows, at.rows);
-    let edges = tables::first(&tables.edges, at.edges);
-    let places = tables::first(&tables.places, at.places);
+    let layout = Layout {
+        rows: tables::first(&tables.rows, at.rows),
+        edges: tables::first(&tables.edges, at.edges),
+        places: tables::first(&tables.places, at.places),
+    };
     let held: &mut [u64] = &mut tables.held;
     let links: &mut [u64] = &mut tables.links;
     // 32 words for each of 32 rows, 32 placements, 64 edge words and 32 held rows
@@ -26,20 +26,24 @@ pub fn end_update(rt: &impl Print, at: Standing, tables: &mut Tables) -> io::Res
     let mut removed = [0u64; 32];
     let mut splits = [0u64; 128];
     let mut merges = [0u64; 128];
-    let o = watch::update(
-        session,
-        update,
-        rows,
-        edges,
-        places,
-        &mut work,
+    let mut areas = Areas {
         held,
         links,
-        &mut order,
-        &mut added,
-        &mut removed,
-        &mut splits,
-        &mut merges,
+        order: &mut order,
+    };
+    let mut changes = Changes {
+        added: &mut added,
+        removed: &mut removed,
+        splits: &mut splits,
+        merges: &mut merges,
+    };
+    let o = watch::update(
+        at.session,
+        at.update,
+        &layout,
+        &mut work,
+        &mut areas,
+        &mut changes,
     );
     let answer = o.answer;
     let mut out = [0u8; 8192];

@@ -1,5 +1,6 @@
 // The layouts of the runs, judged into held areas.
 use std::io;
+use types::lent::{Areas, Layout};
 
 // What a judge that accepts leaves, by value, in room for four rows and sixteen edge words.
 #[derive(Drop)]
@@ -44,17 +45,17 @@ fn judge(rt: &impl Print, epoch: u64, rows: &[u64], edges: &[u64]) -> io::Result
     let mut held = [0u64; 60];
     let mut links = [0u64; 16];
     let mut order = [0u64; 4];
-    let judged = layout::judge_layout(
-        epoch,
-        100,
+    let layout = Layout {
         rows,
         edges,
-        &edges[..0],
-        &mut work,
-        &mut held,
-        &mut links,
-        &mut order,
-    );
+        places: &edges[..0],
+    };
+    let mut areas = Areas {
+        held: &mut held,
+        links: &mut links,
+        order: &mut order,
+    };
+    let judged = layout::judge_layout(epoch, 100, &layout, &mut work, &mut areas);
     crate::print::judged(rt, b"layout of epoch", epoch, judged)?;
     Ok(Held {
         rows: held,

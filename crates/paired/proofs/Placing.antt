@@ -20,6 +20,8 @@ use Rattle.sorts.specs.Rows.{rows}
 use Rattle.sorts.proofs.RowLaws.{le-rows}
 use Rattle.rules.specs.Delta.{Pair}
 use Rattle.paired.specs.Tables.{known}
+use Rattle.paired.specs.declared.pairs.PairKind.{PairKind}
+use Rattle.paired.specs.declared.pairs.PairKind.TheVariants.{Split, Merge}
 use Rattle.paired.specs.Pairs.{kind_of, wanted, pair_of, row_pairs, row_of, rows_at, Placed}
 use Rattle.paired.proofs.Listed.{keep_append}
 use Rattle.tabled.proofs.Kept.{word_kept}
@@ -63,14 +65,9 @@ placed_one w ys at k x y h len e =
       rows = rw (add-one k, is) (take-suc-set (rows_at at w) k (x, y, 0) room);
     }
 
-module _ (w ys : List ℕ) (at k child parent : ℕ) (merge : Bool) (room : at + 3 * (k + 1) ≤ length w) (len : length ys ≡ length (part w at (length w - at))) where
-  pub placed_merge : merge ≡ true → rows ys ≡ set (rows (part w at (length w - at))) k (child, parent, 0)
-      → Placed w (put w at (length w - at) ys) at k (k + 1) (pair_of merge child parent ∷ [])
-  placed_merge m e = rw m (placed_one w ys at k child parent room len e)
-
-  pub placed_split : merge ≡ false → rows ys ≡ set (rows (part w at (length w - at))) k (parent, child, 0)
-      → Placed w (put w at (length w - at) ys) at k (k + 1) (pair_of merge child parent ∷ [])
-  placed_split m e = rw m (placed_one w ys at k parent child room len e)
+pub placed_pair : (w ys : List ℕ) (at k : ℕ) (p : Pair) → at + 3 * (k + 1) ≤ length w → length ys ≡ length (part w at (length w - at))
+    → rows ys ≡ set (rows (part w at (length w - at))) k (p.0, p.1, 0) → Placed w (put w at (length w - at) ys) at k (k + 1) (p ∷ [])
+placed_pair w ys at k p h len e = placed_one w ys at k p.0 p.1 h len e
 
 -- ---- one parent
 
@@ -91,44 +88,44 @@ module _ (u : List ℕ) (parent : ℕ) (b : Bool) (said : b ≡ has parent u) wh
   unfolding known keep
   is_known told = rw (sym said ∙ told) refl
 
-  module _ (w : List ℕ) (at k child : ℕ) (merge : Bool) where
-    pub parent_skip : b ≡ false → Placed w w at k k (map (pair_of merge child) (known (parent ∷ []) u))
-    parent_skip told = placed-none w at k k _ refl (ap (map (pair_of merge child)) (unknown told))
+  module _ (w : List ℕ) (at k child : ℕ) (kind : PairKind) where
+    pub parent_skip : b ≡ false → Placed w w at k k (map (pair_of kind child) (known (parent ∷ []) u))
+    parent_skip told = placed-none w at k k _ refl (ap (map (pair_of kind child)) (unknown told))
 
-    pub parent_put : b ≡ true → (w' : List ℕ) → Placed w w' at k (k + 1) (pair_of merge child parent ∷ [])
-        → Placed w w' at k (k + 1) (map (pair_of merge child) (known (parent ∷ []) u))
-    parent_put told w' p = rw (is_known told) p
+    pub parent_put : b ≡ true → (w' : List ℕ) (x : Pair) → x ≡ pair_of kind child parent → Placed w w' at k (k + 1) (x ∷ [])
+        → Placed w w' at k (k + 1) (map (pair_of kind child) (known (parent ∷ []) u))
+    parent_put told w' x is p = rw (is_known told) (rw is at p)
 
 -- ---- the parents of a child
 
 known_more : (u l : List ℕ) (j : ℕ) → j < length l → known (take (j + 1) l) u ≡ known (take j l) u ++ known (get_or l j 0 ∷ []) u
 known_more u l j h = rw (add-one j, take-suc l j 0 h) (known-append u (take j l) (get_or l j 0 ∷ []))
 
-pub parents-start : (u w : List ℕ) (from count at k child : ℕ) (merge : Bool) → Placed w w at k k (map (pair_of merge child) (known (take 0 (part w from count)) u))
+pub parents-start : (u w : List ℕ) (from count at k child : ℕ) (kind : PairKind) → Placed w w at k k (map (pair_of kind child) (known (take 0 (part w from count)) u))
 unfolding known keep
-parents-start u w from count at k child merge = placed-none w at k k _ refl refl
+parents-start u w from count at k child kind = placed-none w at k k _ refl refl
 
-module _ (u w₀ w : List ℕ) (from count at k r j child : ℕ) (merge : Bool) (room : from + count ≤ at) (fits : at + 3 * (k + count) ≤ length w₀)
-    (p : Placed w₀ w at k r (map (pair_of merge child) (known (take j (part w₀ from count)) u))) where
+module _ (u w₀ w : List ℕ) (from count at k r j child : ℕ) (kind : PairKind) (room : from + count ≤ at) (fits : at + 3 * (k + count) ≤ length w₀)
+    (p : Placed w₀ w at k r (map (pair_of kind child) (known (take j (part w₀ from count)) u))) where
   module _ (below : j < count) where
     pub parents-room : at + 3 * (r + 1) ≤ length w
     parents-room =
         let l : List ℕ = take j (part w₀ from count) in
         let few : length l ≤ j = omega (arith, length-take-le j (part w₀ from count) (omega (arith, part_length w₀ from count (omega arith)))) in
-        omega (arith, p.count, p.size, known-few u l, length-map (known l u) (pair_of merge child))
+        omega (arith, p.count, p.size, known-few u l, length-map (known l u) (pair_of kind child))
 
-    pub parents-next : (w' : List ℕ) (s : ℕ) → Placed w w' at r s (map (pair_of merge child) (known (get_or w (from + j) 0 ∷ []) u))
-        → Placed w₀ w' at k s (map (pair_of merge child) (known (take (j + 1) (part w₀ from count)) u))
+    pub parents-next : (w' : List ℕ) (s : ℕ) → Placed w w' at r s (map (pair_of kind child) (known (get_or w (from + j) 0 ∷ []) u))
+        → Placed w₀ w' at k s (map (pair_of kind child) (known (take (j + 1) (part w₀ from count)) u))
     parents-next w' s q =
         let l : List ℕ = part w₀ from count in
         let n : j < length l = rw (part_length w₀ from count (omega arith)) below in
         let x : get_or w (from + j) 0 ≡ get_or l j 0 = word_kept w w₀ at p.kept (from + j) (omega arith) ∙ sym (part_at w₀ from count j below) in
         let more : known (take (j + 1) l) u ≡ known (take j l) u ++ known (get_or w (from + j) 0 ∷ []) u = rw x (known_more u l j n) in
-        let all : map (pair_of merge child) (known (take (j + 1) l) u) ≡ map (pair_of merge child) (known (take j l) u) ++ map (pair_of merge child) (known (get_or w (from + j) 0 ∷ []) u) =
-        ap (map (pair_of merge child)) more ∙ map-append (pair_of merge child) (known (take j l) u) (known (get_or w (from + j) 0 ∷ []) u) in
+        let all : map (pair_of kind child) (known (take (j + 1) l) u) ≡ map (pair_of kind child) (known (take j l) u) ++ map (pair_of kind child) (known (get_or w (from + j) 0 ∷ []) u) =
+        ap (map (pair_of kind child)) more ∙ map-append (pair_of kind child) (known (take j l) u) (known (get_or w (from + j) 0 ∷ []) u) in
         rw all (placed-then w₀ w w' at k r s _ _ p q)
 
-  pub parents-end : count ≤ j → Placed w₀ w at k r (map (pair_of merge child) (known (part w₀ from count) u))
+  pub parents-end : count ≤ j → Placed w₀ w at k r (map (pair_of kind child) (known (part w₀ from count) u))
   parents-end h =
       let e : take j (part w₀ from count) ≡ part w₀ from count = take_all j (part w₀ from count) (rw (part_length w₀ from count (omega arith)) h) in rw e at p
 
@@ -152,37 +149,37 @@ module _ (u list : List ℕ) (held j : ℕ) (e : held ≡ length (known (take j 
 -- ---- a child
 
 -- as many parents as the kind asks for make a pair each
-kind-all : (merge : Bool) (child : ℕ) (l : List ℕ) → wanted merge (length l) ≡ true → kind_of merge child l ≡ map (pair_of merge child) l
-kind-all false child [] e = never e
-kind-all false child (x ∷ []) e = refl
-kind-all false child (x ∷ y ∷ l) e = absurd (omega (arith, eqb-true (length (x ∷ y ∷ l)) 1 e))
-kind-all true child [] e = never e
-kind-all true child (x ∷ []) e = never e
-kind-all true child (x ∷ y ∷ l) e = refl
+kind-all : (kind : PairKind) (child : ℕ) (l : List ℕ) → wanted kind (length l) ≡ true → kind_of kind child l ≡ map (pair_of kind child) l
+kind-all Split child [] e = never e
+kind-all Split child (x ∷ []) e = refl
+kind-all Split child (x ∷ y ∷ l) e = absurd (omega (arith, eqb-true (length (x ∷ y ∷ l)) 1 e))
+kind-all Merge child [] e = never e
+kind-all Merge child (x ∷ []) e = never e
+kind-all Merge child (x ∷ y ∷ l) e = refl
 
 -- others make none
-kind-none : (merge : Bool) (child : ℕ) (l : List ℕ) → wanted merge (length l) ≡ false → kind_of merge child l ≡ []
-kind-none false child [] e = refl
-kind-none false child (x ∷ []) e = never (sym e)
-kind-none false child (x ∷ y ∷ l) e = refl
-kind-none true child [] e = refl
-kind-none true child (x ∷ []) e = refl
-kind-none true child (x ∷ y ∷ l) e = absurd (omega (arith, ltb-false 1 (length (x ∷ y ∷ l)) e))
+kind-none : (kind : PairKind) (child : ℕ) (l : List ℕ) → wanted kind (length l) ≡ false → kind_of kind child l ≡ []
+kind-none Split child [] e = refl
+kind-none Split child (x ∷ []) e = never (sym e)
+kind-none Split child (x ∷ y ∷ l) e = refl
+kind-none Merge child [] e = refl
+kind-none Merge child (x ∷ []) e = refl
+kind-none Merge child (x ∷ y ∷ l) e = absurd (omega (arith, ltb-false 1 (length (x ∷ y ∷ l)) e))
 
-module _ (u w : List ℕ) (from count at k child : ℕ) (merge b : Bool) (said : b ≡ has child u) where
-  pub child_held : b ≡ true → Placed w w at k k (row_pairs merge u child (part w from count))
+module _ (u w : List ℕ) (from count at k child : ℕ) (kind : PairKind) (b : Bool) (said : b ≡ has child u) where
+  pub child_held : b ≡ true → Placed w w at k k (row_pairs kind u child (part w from count))
   unfolding row_pairs
   child_held told = placed-none w at k k _ refl (rw (sym said ∙ told) refl)
 
-  module _ (held : ℕ) (c : Bool) (counted : held ≡ length (known (part w from (from + count - from)) u)) (asked : c ≡ wanted merge held) where
-    is-wanted : wanted merge (length (known (part w from count) u)) ≡ c
-    is-wanted = sym (asked ∙ ap (wanted merge) (counted ∙ ap (λ (l : List ℕ). length (known l u)) (part-as w from (from + count) count refl)))
+  module _ (held : ℕ) (c : Bool) (counted : held ≡ length (known (part w from (from + count - from)) u)) (asked : c ≡ wanted kind held) where
+    is-wanted : wanted kind (length (known (part w from count) u)) ≡ c
+    is-wanted = sym (asked ∙ ap (wanted kind) (counted ∙ ap (λ (l : List ℕ). length (known l u)) (part-as w from (from + count) count refl)))
 
-    pub child_unwanted : b ≡ false → c ≡ false → Placed w w at k k (row_pairs merge u child (part w from count))
+    pub child_unwanted : b ≡ false → c ≡ false → Placed w w at k k (row_pairs kind u child (part w from count))
     unfolding row_pairs
-    child_unwanted told n = placed-none w at k k _ refl (rw (sym said ∙ told) (kind-none merge child (known (part w from count) u) (is-wanted ∙ n)))
+    child_unwanted told n = placed-none w at k k _ refl (rw (sym said ∙ told) (kind-none kind child (known (part w from count) u) (is-wanted ∙ n)))
 
-    pub child_wanted : b ≡ false → c ≡ true → (w' : List ℕ) (r : ℕ) → Placed w w' at k r (map (pair_of merge child) (known (part w from count) u))
-        → Placed w w' at k r (row_pairs merge u child (part w from count))
+    pub child_wanted : b ≡ false → c ≡ true → (w' : List ℕ) (r : ℕ) → Placed w w' at k r (map (pair_of kind child) (known (part w from count) u))
+        → Placed w w' at k r (row_pairs kind u child (part w from count))
     unfolding row_pairs
-    child_wanted told y w' r p = rw (sym said ∙ told, kind-all merge child (known (part w from count) u) (is-wanted ∙ y)) p
+    child_wanted told y w' r p = rw (sym said ∙ told, kind-all kind child (known (part w from count) u) (is-wanted ∙ y)) p

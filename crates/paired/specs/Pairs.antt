@@ -1,36 +1,39 @@
--- Split pairs and merge pairs by one definition: `merge` says which kind. And how pairs stand in the work area, three words to a row, so
+-- Split pairs and merge pairs by one definition for both kinds. And how pairs stand in the work area, three words to a row, so
 -- that they can be sorted there.
 -- Assumes nothing.
-use Rattle.std.specs.Prelude.{ℕ, ◌+◌, ◌≡◌, Bool, true, false, cond, List, [], ◌∷◌, ◌++◌, map, eqb, ltb, length, take, drop}
-use Rattle.lists.specs.Lists.{has}
+use Rattle.std.specs.Prelude.{ℕ, ◌+◌, ◌≡◌, Bool, cond, List, [], ◌∷◌, ◌++◌, map, eqb, ltb, length, take, drop}
+use Rattle.lists.specs.Lists.{has, front}
 use Rattle.lists.specs.Sort.{Row, sorted}
 use Rattle.sorts.specs.Rows.{rows}
 use Rattle.rules.specs.Model.{Segment}
-use Rattle.rules.specs.Delta.{Pair, pair_le, added_from, splits_of, merges_of, pairs_from}
+use Rattle.rules.specs.Delta.{Pair, pair_le, added_from, splits_of, merges_of, pairs_from, pair_words}
+use Rattle.rules.specs.Update.{Changes}
+use Rattle.paired.specs.declared.pairs.PairKind.{PairKind}
+use Rattle.paired.specs.declared.pairs.PairKind.TheVariants.{Split, Merge}
 use Rattle.paired.specs.Tables.{known}
 
 -- the pairs of one kind that a child makes with its parents held before
-abbrev pub kind_of : Bool → ℕ → List ℕ → List Pair
-kind_of false = splits_of
-kind_of true = merges_of
+abbrev pub kind_of : PairKind → ℕ → List ℕ → List Pair
+kind_of Split = splits_of
+kind_of Merge = merges_of
 
 -- as many parents held before as that kind asks for
-abbrev pub wanted : Bool → ℕ → Bool
-wanted false count = eqb count 1
-wanted true count = ltb 1 count
+abbrev pub wanted : PairKind → ℕ → Bool
+wanted Split count = eqb count 1
+wanted Merge count = ltb 1 count
 
 -- "a split pair (parent, child)", "merge pairs (child, parent)"
-abbrev pub pair_of : Bool → ℕ → ℕ → Pair
-pair_of false child parent = (parent, child)
-pair_of true child parent = (child, parent)
+abbrev pub pair_of : PairKind → ℕ → ℕ → Pair
+pair_of Split child parent = (parent, child)
+pair_of Merge child parent = (child, parent)
 
 -- the pairs of one kind of a row, if it was added
-unfoldable pub row_pairs : Bool → List ℕ → ℕ → List ℕ → List Pair
-row_pairs merge before child parents = cond (has child before) [] (kind_of merge child (known parents before))
+unfoldable pub row_pairs : PairKind → List ℕ → ℕ → List ℕ → List Pair
+row_pairs kind before child parents = cond (has child before) [] (kind_of kind child (known parents before))
 
 -- the pairs of one kind, in the order of the added rows
-unfoldable pub pairs_of : Bool → List ℕ → List Segment → List Pair
-pairs_of merge before ss = pairs_from (kind_of merge) before (added_from before ss)
+unfoldable pub pairs_of : PairKind → List ℕ → List Segment → List Pair
+pairs_of kind before ss = pairs_from (kind_of kind) before (added_from before ss)
 
 -- ---- ascending, over segments that ascend by id: `before` are the ids held before, `ss` the segments of the new layout
 
@@ -39,6 +42,20 @@ splits_from before ss = sorted pair_le (pairs_from splits_of before (added_from 
 
 unfoldable pub merges_from : List ℕ → List Segment → List Pair
 merges_from before ss = sorted pair_le (pairs_from merges_of before (added_from before ss))
+
+-- the pairs of one kind, ascending
+unfoldable pub ascending_pairs : PairKind → List ℕ → List Segment → List Pair
+ascending_pairs kind before ss = sorted pair_le (pairs_of kind before ss)
+
+-- the lists of both, as `write_paired` leaves them
+abbrev pub paired_from : List ℕ → List Segment → Changes → Changes
+paired_from before ss c =
+    record {
+      added = c.added;
+      removed = c.removed;
+      splits = front (pair_words (splits_from before ss)) c.splits;
+      merges = front (pair_words (merges_from before ss)) c.merges;
+    }
 
 -- ---- in the work area
 

@@ -19,10 +19,11 @@ pub fn is_held(old: &[u64], h: usize, id: u64) -> bool
 
 // This id at place k, if the h rows of `those` lack it; how many words there are then.
 fn push_lacking(out: &mut [u64], k: usize, id: u64, those: &[u64], h: usize) -> usize
-    requires k_in_bounds { k < length out.old }
-    requires rows { Rows those.now h }
-    ensures value { result ≡ k + length (lacking (id ∷ []) (ids_in those.now h)) }
-    ensures out_after { out.new ≡ put out.old k (length (lacking (id ∷ []) (ids_in those.now h))) (lacking (id ∷ []) (ids_in those.now h)) }
+    requires room { k < length out.old }
+    requires rows_ascend { Rows those.now h }
+    ensures count { result ≡ k + length (lacking (id ∷ []) (ids_in those.now h)) }
+    ensures written { out.new ≡
+        put out.old k (length (lacking (id ∷ []) (ids_in those.now h))) (lacking (id ∷ []) (ids_in those.now h)) }
 {
     if is_held(those, h, id) {
         return k;
@@ -33,11 +34,11 @@ fn push_lacking(out: &mut [u64], k: usize, id: u64, those: &[u64], h: usize) -> 
 
 // The ids of the n rows of `these` that the h rows of `those` lack, at the front of out; how many they are.
 pub fn write_lacking(out: &mut [u64], these: &[u64], n: usize, those: &[u64], h: usize) -> usize
-    requires n_in_bounds { n ≤ length out.old }
-    requires held_width_in_bounds { n * held_width ≤ length these.now }
-    requires rows { Rows those.now h }
-    ensures value { result ≡ length (lacking (ids_in these.now n) (ids_in those.now h)) }
-    ensures out_after { out.new ≡ front (lacking (ids_in these.now n) (ids_in those.now h)) out.old }
+    requires out_fits { n ≤ length out.old }
+    requires whole_rows { n * held_width ≤ length these.now }
+    requires rows_ascend { Rows those.now h }
+    ensures count { result ≡ length (lacking (ids_in these.now n) (ids_in those.now h)) }
+    ensures written { out.new ≡ front (lacking (ids_in these.now n) (ids_in those.now h)) out.old }
 {
     let mut k = 0;
     for i in 0..n {

@@ -3,12 +3,15 @@
 #![tactic(auto)]
 
 ghost use Rattle.std.specs.Prelude.{◌≡◌, ◌+◌, ◌*◌, ◌≤◌, length, take};
-ghost use Rattle.lists.specs.Lists.{front};
+ghost use Rattle.types.specs.Lent.{SameChanges};
 ghost use Rattle.rules.specs.Tables.{held_width};
-ghost use Rattle.rules.specs.Delta.{pair_words};
+ghost use Rattle.rules.specs.Lent.{changes_in};
 ghost use Rattle.tabled.specs.Image.{Image, image_segments};
 ghost use Rattle.paired.specs.Tables.{Rows, ids_in};
-ghost use Rattle.paired.specs.Pairs.{splits_from, merges_from};
+ghost use Rattle.paired.specs.Pairs.{splits_from, merges_from, paired_from};
+
+use pairs::PairKind;
+use types::lent::Changes;
 
 pub mod ids;
 mod pairs;
@@ -20,7 +23,7 @@ pub struct Paired {
     pub merges: usize,
 }
 
-// The pairs of both kinds, one after the other in the same rows from word `at` on.
+// The pairs of both kinds, at the front of their lists. They are made one kind after the other in the same rows from word `at` on.
 pub fn write_paired(
     w: &mut [u64],
     n: usize,
@@ -28,23 +31,25 @@ pub fn write_paired(
     at: usize,
     old: &[u64],
     h: usize,
-    splits: &mut [u64],
-    merges: &mut [u64],
+    changes: &mut Changes,
 ) -> Paired
     requires image { Image w.old n e }
-    requires e_bound { n * held_width + e ≤ at }
-    requires e_in_bounds { at + 3 * e ≤ length w.old }
-    requires rows { Rows old.now h }
-    requires e_in_bounds_2 { 2 * e ≤ length splits.old }
-    requires e_in_bounds_3 { 2 * e ≤ length merges.old }
-    ensures splits_value { result.splits ≡ length (splits_from (ids_in old.now h) (image_segments w.old n e)) }
-    ensures merges_value { result.merges ≡ length (merges_from (ids_in old.now h) (image_segments w.old n e)) }
-    ensures splits_after { splits.new ≡ front (pair_words (splits_from (ids_in old.now h) (image_segments w.old n e))) splits.old }
-    ensures merges_after { merges.new ≡ front (pair_words (merges_from (ids_in old.now h) (image_segments w.old n e))) merges.old }
-    ensures w_unchanged { take at w.new ≡ take at w.old }
+    requires image_before { n * held_width + e ≤ at }
+    requires work { at + 3 * e ≤ length w.old }
+    requires old_rows { Rows old.now h }
+    requires splits_fit { 2 * e ≤ length changes.old.splits.now }
+    requires merges_fit { 2 * e ≤ length changes.old.merges.now }
+    ensures splits { result.splits ≡ length (splits_from (ids_in old.now h) (image_segments w.old n e)) }
+    ensures merges { result.merges ≡ length (merges_from (ids_in old.now h) (image_segments w.old n e)) }
+    ensures same { SameChanges changes.old changes.new }
+    ensures written { changes_in changes.new ≡
+        paired_from (ids_in old.now h) (image_segments w.old n e) (changes_in changes.old) }
+    ensures image_stays { take at w.new ≡ take at w.old }
 {
-    let split = pairs::write_splits(w, n, e, at, old, h, splits);
-    let merged = pairs::write_merges(w, n, e, at, old, h, merges);
+    let splits = &mut *changes.splits;
+    let split = pairs::write_pairs(PairKind::Split, w, n, e, at, old, h, splits);
+    let merges = &mut *changes.merges;
+    let merged = pairs::write_pairs(PairKind::Merge, w, n, e, at, old, h, merges);
     Paired {
         splits: split,
         merges: merged,

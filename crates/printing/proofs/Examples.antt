@@ -6,7 +6,7 @@ use mathlib.Core.List.{[], ◌∷◌}
 use Rattle.answers.specs.declared.RefusalWords.{RefusalWords}
 use Rattle.answers.specs.declared.DagChangeReason.TheVariants.{Split, Merge, Unknown}
 use Rattle.answers.specs.Verdict as E
-use Rattle.answers.specs.declared.Updated.TheVariants as U
+use Rattle.answers.specs.Updates as U
 use Rattle.texts.specs.Decimal.{decimal, signed}
 use Rattle.texts.specs.CommaList.{commas, listed, pairs_listed}
 use Rattle.printing.specs.Shown.{first_text, value_texts, shown_refusal, shown_accepted, shown_updated, shown_unprovable, shown_blocked, shown_managed, shown_ordering, shown_unreadable}

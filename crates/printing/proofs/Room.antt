@@ -13,8 +13,8 @@ use Rattle.answers.specs.declared.RefusalWords.{RefusalWords}
 use Rattle.answers.specs.declared.DagDelta.{DagDelta}
 use Rattle.answers.specs.Verdict.{Verdict}
 use Rattle.answers.specs.Verdict as E
-use Rattle.answers.specs.declared.Updated.{Updated}
-use Rattle.answers.specs.declared.Updated.TheVariants as U
+use Rattle.answers.specs.Updates.{UpdateAnswer}
+use Rattle.answers.specs.Updates as U
 use Rattle.answers.specs.Answer.{words_of}
 use Rattle.answers.specs.Kinds.{kind_of}
 use Rattle.texts.specs.Decimal.{decimal, signed}
@@ -74,7 +74,7 @@ refusal-fits r = refused-length r [] {k = 0} (omega arith)
 -- ---- updates
 
 -- what the listing program holds at most
-abbrev pub Few : Updated → ℕ → Type 0
+abbrev pub Few : UpdateAnswer → ℕ → Type 0
 Few (U.Refused r) rows = Unit
 Few U.Stale rows = Unit
 Few (U.Accepted d) rows = (rows ≤ 32) × (d.added ≤ 32) × (d.removed ≤ 32) × (d.splits ≤ 64) × (d.merges ≤ 64)
@@ -100,7 +100,7 @@ accepted-fits d rows order added removed splits merges few =
     (wider (letter_of d.reason ∷ []) h {m = 1} {k = 21} (omega arith)
     (wider (decimal d.handover) [] {k = 0} (decimal-length d.handover) (omega arith)))))))))
 
-pub updated-fits : (u : Updated) (rows : ℕ) (order added removed splits merges : List ℕ) → Few u rows
+pub updated-fits : (u : UpdateAnswer) (rows : ℕ) (order added removed splits merges : List ℕ) → Few u rows
     → length (shown_updated u rows order added removed splits merges) ≤ 7448
 updated-fits (U.Refused r) rows order added removed splits merges few = omega (arith, refusal-fits (words_of r))
 updated-fits U.Stale rows order added removed splits merges few = omega arith

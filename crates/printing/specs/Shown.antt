@@ -10,8 +10,8 @@ use Rattle.answers.specs.declared.DagChangeReason.TheVariants.{Split, Merge, Seg
 use Rattle.answers.specs.declared.DagDelta.{DagDelta}
 use Rattle.answers.specs.Verdict.{Verdict}
 use Rattle.answers.specs.Verdict as E
-use Rattle.answers.specs.declared.Updated.{Updated}
-use Rattle.answers.specs.declared.Updated.TheVariants as U
+use Rattle.answers.specs.Updates.{UpdateAnswer}
+use Rattle.answers.specs.Updates as U
 use Rattle.answers.specs.Answer.{words_by, words_of, eligibility_number, eligibility_values}
 use Rattle.answers.specs.Kinds.{kind_of}
 use Rattle.texts.specs.Decimal.{decimal, signed}
@@ -75,7 +75,7 @@ shown_accepted d rows order added removed splits merges =
     ∷ change_fields d splits merges)
 
 -- An update's answer, with the number of rows that its session holds then and the lists that it was lent.
-abbrev pub shown_updated : Updated → ℕ → List ℕ → List ℕ → List ℕ → List ℕ → List ℕ → List ℕ
+abbrev pub shown_updated : UpdateAnswer → ℕ → List ℕ → List ℕ → List ℕ → List ℕ → List ℕ → List ℕ
 shown_updated (U.Refused r) rows order added removed splits merges = shown_refusal (words_of r)
 shown_updated U.Stale rows order added removed splits merges = line (code "T") []
 shown_updated (U.Accepted d) rows order added removed splits merges = shown_accepted d rows order added removed splits merges

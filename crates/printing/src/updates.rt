@@ -6,7 +6,7 @@ ghost use Rattle.texts.specs.Written.{Wrote};
 
 use crate::fields::{field_list, field_number, field_pairs, last_number, put_bare};
 use crate::refusals::put_refusal;
-use answers::{DagChangeReason, DagDelta, Updated};
+use answers::{DagChangeReason, DagDelta, Refusal, Updated};
 use texts::area::put_byte;
 
 fn reason_letter(reason: DagChangeReason) -> u8
@@ -66,7 +66,7 @@ fn put_accepted(
 pub fn put_updated(
     out: &mut [u8],
     at: usize,
-    answer: Updated,
+    answer: Result<Updated, Refusal>,
     rows: usize,
     order: &[u64],
     added: &[u64],
@@ -77,9 +77,9 @@ pub fn put_updated(
     ensures { Wrote out.old at (shown_updated answer rows order.now added.now removed.now splits.now merges.now) out.new result }
 {
     match answer {
-        Updated::Refused(r) => put_refusal(out, at, r.into()),
-        Updated::Stale => put_bare(out, at, b'T'),
-        Updated::Accepted(d) => {
+        Err(r) => put_refusal(out, at, r.into()),
+        Ok(Updated::Stale) => put_bare(out, at, b'T'),
+        Ok(Updated::Accepted(d)) => {
             put_accepted(out, at, d, rows, order, added, removed, splits, merges)
         }
     }

@@ -2,7 +2,7 @@
 -- "Acceptance replaces the held layout." "Refusals change no lent word, .. and the work area is all zero after any call that got past 2."
 -- Assumes nothing.
 use Rattle.std.specs.Prelude.{ℕ, ◌≡◌, List, length}
-use Rattle.answers.specs.declared.Updated.{Updated}
+use Rattle.answers.specs.Updates.{UpdateAnswer}
 use Rattle.types.specs.declared.limits.DagLimits.{DagLimits}
 use Rattle.rules.specs.Judge.{Tables, Areas, segments_in, filled, cleared_if}
 use Rattle.rules.specs.Update.{Changes, Went, judged, replace_rule, held_before, updated_of, if_accepted, changed, past_update_room}
@@ -15,13 +15,8 @@ abbrev pub replaced : ℕ → ℕ → ℕ → ℕ → DagLimits → Tables → �
 replaced h g epoch size limits t work a c = judged (replace_rule h g epoch size limits t work a c)
 
 -- The whole promise: the answer, and every lent word afterwards, from all inputs. Each part is an equation, so two answers that satisfy it are equal.
-pub record Replaced (h g epoch size : ℕ) (limits : DagLimits) (t : Tables) (work : List ℕ) (a : Areas) (c : Changes) (answered : Updated) (work' held' links' order' added' removed' splits' merges' : List ℕ) : Type 0 where
+pub record Replaced (h g epoch size : ℕ) (limits : DagLimits) (t : Tables) (work : List ℕ) (a : Areas) (c : Changes) (answered : UpdateAnswer) (work' : List ℕ) (a' : Areas) (c' : Changes) : Type 0 where
   pub answer : answered ≡ updated_of (replaced h g epoch size limits t (length work) a c) epoch (held_before h a) (segments_in t)
   pub cleared : work' ≡ cleared_if (past_update_room h g t (length work) a c) work
-  pub rows-held : held' ≡ (if_accepted (replaced h g epoch size limits t (length work) a c) (filled limits t a) a).held
-  pub edges-held : links' ≡ (if_accepted (replaced h g epoch size limits t (length work) a c) (filled limits t a) a).links
-  pub order-held : order' ≡ (if_accepted (replaced h g epoch size limits t (length work) a c) (filled limits t a) a).order
-  pub added-list : added' ≡ (if_accepted (replaced h g epoch size limits t (length work) a c) (changed (held_before h a) (segments_in t) c) c).added
-  pub removed-list : removed' ≡ (if_accepted (replaced h g epoch size limits t (length work) a c) (changed (held_before h a) (segments_in t) c) c).removed
-  pub splits-list : splits' ≡ (if_accepted (replaced h g epoch size limits t (length work) a c) (changed (held_before h a) (segments_in t) c) c).splits
-  pub merges-list : merges' ≡ (if_accepted (replaced h g epoch size limits t (length work) a c) (changed (held_before h a) (segments_in t) c) c).merges
+  pub areas : a' ≡ if_accepted (replaced h g epoch size limits t (length work) a c) (filled limits t a) a
+  pub lists : c' ≡ if_accepted (replaced h g epoch size limits t (length work) a c) (changed (held_before h a) (segments_in t) c) c

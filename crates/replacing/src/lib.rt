@@ -2,37 +2,70 @@
 // what is held come as numbers, so that nothing here knows of sessions.
 #![tactic(auto)]
 
-ghost use Rattle.std.specs.Prelude.{◌+◌, ◌*◌, ◌≡◌, length};
+ghost use Rattle.std.specs.Prelude.{◌≡◌, take};
 ghost use Rattle.answers.specs.Answer.{Accepted};
-ghost use Rattle.layout.specs.Lent.{tables_of, areas_of};
-ghost use Rattle.replacing.specs.Stored.{Room, Storable, Stored, Finished};
-ghost use Rattle.replacing.specs.Lent.{changes_of, Replaced};
+ghost use Rattle.types.specs.Lent.{SameAreas, SameChanges};
+ghost use Rattle.rules.specs.Lent.{tables_in, areas_in, changes_in};
+ghost use Rattle.rules.specs.Shape.{bad_held};
+ghost use Rattle.rules.specs.Update.{held_before};
+ghost use Rattle.tabled.specs.Image.{image_segments};
+ghost use Rattle.delta.specs.Changed.{delta_from, changed_from};
+ghost use Rattle.replacing.specs.Stored.{Room, Storable, Stored, Finished, pairs_at};
+ghost use Rattle.replacing.specs.Lent.{Replaced};
 
 use answers::{DagDelta, Refusal, Updated};
+use types::lent::{Areas, Changes, Layout};
 use types::limits::DagLimits;
 
-// The delta is told from the old rows before the new ones are stored over them. Its pairs stand behind the order list, which stays.
+// How many rows and how many edge words are held.
+#[derive(Clone, Copy, PartialEq, Eq, Debug)]
+pub struct Held {
+    pub rows: usize,
+    pub edges: usize,
+}
+
+// The delta against the h rows that are held, before the new ones are stored over them. Its pairs stand behind the order list, which stays.
+fn write_delta(
+    w: &mut [u64],
+    n: usize,
+    e: usize,
+    epoch: u64,
+    h: usize,
+    areas: &Areas,
+    changes: &mut Changes,
+) -> DagDelta
+    requires storable { Storable w.old n e }
+    requires room { Room n e h (areas_in areas.now) (changes_in changes.old) }
+    ensures value { result ≡
+        delta_from epoch (held_before h (areas_in areas.now)) (image_segments w.old n e) }
+    ensures same_lists { SameChanges changes.old changes.new }
+    ensures written { changes_in changes.new ≡
+        changed_from (held_before h (areas_in areas.now)) (image_segments w.old n e) (changes_in changes.old) }
+    ensures layout_stays { take (pairs_at n e) w.new ≡ take (pairs_at n e) w.old }
+{
+    let at = n * rules::HELD + e + 5 * n;
+    delta::write_delta(w, n, e, at, epoch, areas.held, h, changes)
+}
+
+// The delta is told, and then the n rows with e edge words at the front of w are stored. The work area is cleared.
 fn accept(
     w: &mut [u64],
     n: usize,
     e: usize,
     epoch: u64,
     h: usize,
-    held: &mut [u64],
-    links: &mut [u64],
-    order: &mut [u64],
-    added: &mut [u64],
-    removed: &mut [u64],
-    splits: &mut [u64],
-    merges: &mut [u64],
+    areas: &mut Areas,
+    changes: &mut Changes,
 ) -> DagDelta
     requires storable { Storable w.old n e }
-    requires room { Room n e h (areas_of held.old links.old order.old) (changes_of added.old removed.old splits.old merges.old) }
-    ensures { Stored w.old n e epoch h (areas_of held.old links.old order.old) (changes_of added.old removed.old splits.old merges.old) result w.new held.new links.new order.new added.new removed.new splits.new merges.new }
+    requires room { Room n e h (areas_in areas.old) (changes_in changes.old) }
+    ensures same { SameAreas areas.old areas.new }
+    ensures same_lists { SameChanges changes.old changes.new }
+    ensures stored { Stored w.old n e epoch h (areas_in areas.old) (changes_in changes.old)
+        result w.new (areas_in areas.new) (changes_in changes.new) }
 {
-    let at = n * rules::HELD + e + 5 * n;
-    let d = delta::write_delta(w, n, e, at, epoch, held, h, added, removed, splits, merges);
-    layout::store(w, n, e, held, links, order);
+    let d = write_delta(w, n, e, epoch, h, areas, changes);
+    layout::store(w, n, e, areas);
     words::clear(w);
     d
 }
@@ -45,89 +78,61 @@ fn finish(
     e: usize,
     epoch: u64,
     h: usize,
-    held: &mut [u64],
-    links: &mut [u64],
-    order: &mut [u64],
-    added: &mut [u64],
-    removed: &mut [u64],
-    splits: &mut [u64],
-    merges: &mut [u64],
-) -> Updated
+    areas: &mut Areas,
+    changes: &mut Changes,
+) -> Result<Updated, Refusal>
     requires storable { judged ≡ Accepted → Storable w.old n e }
-    requires room { Room n e h (areas_of held.old links.old order.old) (changes_of added.old removed.old splits.old merges.old) }
-    ensures { Finished judged w.old n e epoch h (areas_of held.old links.old order.old) (changes_of added.old removed.old splits.old merges.old) result w.new held.new links.new order.new added.new removed.new splits.new merges.new }
+    requires room { Room n e h (areas_in areas.old) (changes_in changes.old) }
+    ensures same { SameAreas areas.old areas.new }
+    ensures same_lists { SameChanges changes.old changes.new }
+    ensures finished { Finished judged w.old n e epoch h (areas_in areas.old) (changes_in changes.old)
+        result w.new (areas_in areas.new) (changes_in changes.new) }
 {
     match judged {
-        Ok(()) => Updated::Accepted(accept(
-            w, n, e, epoch, h, held, links, order, added, removed, splits, merges,
-        )),
+        Ok(()) => Ok(Updated::Accepted(accept(w, n, e, epoch, h, areas, changes))),
         Err(r) => {
             words::clear(w);
-            Updated::Refused(r)
+            Err(r)
         }
     }
 }
 
-// The layout of that epoch and size, where h rows and g edge words are held. 1 and 2 leave every lent word as it was; past them the work area
-// is cleared; only an accepted layout is stored, and only then the four lists are written.
+// 1, of the tables that are held.
+fn is_bad_held(areas: &Areas, held: Held) -> bool
+    ensures { result ≡ bad_held (areas_in areas.now).held (areas_in areas.now).links held.rows held.edges }
+{
+    shape::tables::is_bad_held(areas.held, areas.links, held.rows, held.edges)
+}
+
+// The layout of that epoch and size, where so much is held. 1 and 2 leave every lent word as it was; past them the work area is cleared; only
+// an accepted layout is stored, and only then the four lists are written.
 pub fn replace(
     epoch: u64,
     size: u64,
     limits: DagLimits,
-    h: usize,
-    g: usize,
-    rows: &[u64],
-    edges: &[u64],
-    places: &[u64],
+    held: Held,
+    layout: &Layout,
     work: &mut [u64],
-    held: &mut [u64],
-    links: &mut [u64],
-    order: &mut [u64],
-    added: &mut [u64],
-    removed: &mut [u64],
-    splits: &mut [u64],
-    merges: &mut [u64],
-) -> Updated
-    ensures { Replaced h g epoch size limits (tables_of rows.now edges.now places.now) work.old (areas_of held.old links.old order.old) (changes_of added.old removed.old splits.old merges.old) result work.new held.new links.new order.new added.new removed.new splits.new merges.new }
+    areas: &mut Areas,
+    changes: &mut Changes,
+) -> Result<Updated, Refusal>
+    ensures same { SameAreas areas.old areas.new }
+    ensures same_lists { SameChanges changes.old changes.new }
+    ensures replaced { Replaced held.rows held.edges epoch size limits
+        (tables_in layout.now) work.old (areas_in areas.old) (changes_in changes.old)
+        result work.new (areas_in areas.new) (changes_in changes.new) }
 {
-    if shape::tables::is_bad_layout(rows, edges, places) {
-        return Updated::Refused(Refusal::BadTable);
+    if shape::tables::is_bad_layout(layout.rows, layout.edges, layout.places) {
+        return Err(Refusal::BadTable);
     }
-    if shape::tables::is_bad_held(held, links, h, g) {
-        return Updated::Refused(Refusal::BadTable);
+    if is_bad_held(areas, held) {
+        return Err(Refusal::BadTable);
     }
-    let n = rows.len() / rules::ROW;
-    let m = places.len() / rules::PLACE;
-    if shape::room::lacks_room_to_update(
-        work.len(),
-        held.len(),
-        links.len(),
-        order.len(),
-        added.len(),
-        removed.len(),
-        splits.len(),
-        merges.len(),
-        n,
-        m,
-        edges.len(),
-        h,
-    ) {
-        return Updated::Refused(Refusal::NoRoom);
+    if shape::room::lacks_room_to_update(layout, work.len(), areas, changes, held.rows) {
+        return Err(Refusal::NoRoom);
     }
-    let judged = layout::judge_in(work, epoch, size, limits, rows, n, edges, places, m);
-    finish(
-        judged,
-        work,
-        n,
-        edges.len(),
-        epoch,
-        h,
-        held,
-        links,
-        order,
-        added,
-        removed,
-        splits,
-        merges,
-    )
+    let judged = layout::judge_in(work, epoch, size, limits, layout);
+    let n = layout.rows.len() / rules::ROW;
+    let e = layout.edges.len();
+    finish(judged, work, n, e, epoch, held.rows, areas, changes)
 }

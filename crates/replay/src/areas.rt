@@ -59,14 +59,14 @@ pub fn lay_four(
     first: usize,
     k: usize,
 )
-    requires value { 2048 ≡ length a.old }
-    requires value_2 { 2048 ≡ length b.old }
-    requires value_3 { 2048 ≡ length c.old }
-    requires value_4 { 2048 ≡ length d.old }
-    ensures value_5 { 2048 ≡ length a.new }
-    ensures value_6 { 2048 ≡ length b.new }
-    ensures value_7 { 2048 ≡ length c.new }
-    ensures value_8 { 2048 ≡ length d.new }
+    requires a_whole { 2048 ≡ length a.old }
+    requires b_whole { 2048 ≡ length b.old }
+    requires c_whole { 2048 ≡ length c.old }
+    requires d_whole { 2048 ≡ length d.old }
+    ensures a_stays_whole { 2048 ≡ length a.new }
+    ensures b_stays_whole { 2048 ≡ length b.new }
+    ensures c_stays_whole { 2048 ≡ length c.new }
+    ensures d_stays_whole { 2048 ≡ length d.new }
 {
     lay(a, line, first, k);
     lay(b, line, first, line::further(k, 1));
@@ -79,10 +79,7 @@ pub fn length_of(line: &[u64], first: usize, k: usize) -> usize
     ensures { result ≤ 2048 }
 {
     let p = line::part_of(line, first, k);
-    if p.length < ROOM {
-        return p.length;
-    }
-    ROOM
+    p.length.min(ROOM)
 }
 
 // Every word of the area is the part's.

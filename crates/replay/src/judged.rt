@@ -2,6 +2,7 @@
 // the call (work, held rows, held edges, order), and the same after it.
 use crate::areas::Difference;
 use crate::{areas, line};
+use types::lent::{Areas, Layout};
 use types::limits::DagLimits;
 
 pub const CALL: u64 = 1;
@@ -19,25 +20,24 @@ pub fn limits_at(line: &[u64], at: usize) -> DagLimits {
     }
 }
 
+// The layout that comes: the first three parts of a line whose parts begin at `first`.
+pub fn layout_in<'a>(line: &'a [u64], first: usize) -> Layout<'a> {
+    Layout {
+        rows: line::table(line, first, 0),
+        edges: line::table(line, first, 1),
+        places: line::table(line, first, 2),
+    }
+}
+
 // The call, and what it answers by value.
-pub fn ask(
-    line: &[u64],
-    work: &mut [u64],
-    held: &mut [u64],
-    links: &mut [u64],
-    order: &mut [u64],
-) -> Difference {
+pub fn ask(line: &[u64], work: &mut [u64], areas: &mut Areas) -> Difference {
     let judged = layout::judge_layout_with_limits(
         line::number_at(line, 1),
         line::number_at(line, 2),
         limits_at(line, 3),
-        line::table(line, PARTS, 0),
-        line::table(line, PARTS, 1),
-        line::table(line, PARTS, 2),
+        &layout_in(line, PARTS),
         work,
-        held,
-        links,
-        order,
+        areas,
     );
     areas::compare_refusal(judged, line, ANSWER)
 }

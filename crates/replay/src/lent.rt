@@ -1,18 +1,13 @@
 // The four areas that the judge and the update are both lent.
 use crate::areas::Difference;
 use crate::{areas, judged, line, names, updated};
+use types::lent::Areas;
 
-fn ask(
-    line: &[u64],
-    work: &mut [u64],
-    held: &mut [u64],
-    links: &mut [u64],
-    order: &mut [u64],
-) -> Difference {
+fn ask(line: &[u64], work: &mut [u64], areas: &mut Areas) -> Difference {
     if line::number_at(line, 0) == judged::CALL {
-        return judged::ask(line, work, held, links, order);
+        return judged::ask(line, work, areas);
     }
-    updated::ask(line, work, held, links, order)
+    updated::ask(line, work, areas)
 }
 
 // A line of so many parts from `first` on: three tables, the areas before the call from the fourth on, and after it from `after` on.
@@ -29,13 +24,12 @@ pub fn replay(line: &[u64], first: usize, parts: usize, after: usize) -> Differe
     let h = areas::length_of(line, first, 4);
     let l = areas::length_of(line, first, 5);
     let o = areas::length_of(line, first, 6);
-    let d = ask(
-        line,
-        &mut work[0..w],
-        &mut held[0..h],
-        &mut links[0..l],
-        &mut order[0..o],
-    );
+    let mut lent = Areas {
+        held: &mut held[0..h],
+        links: &mut links[0..l],
+        order: &mut order[0..o],
+    };
+    let d = ask(line, &mut work[0..w], &mut lent);
     areas::compare_four(
         d,
         names::WORK,

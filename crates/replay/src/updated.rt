@@ -3,10 +3,11 @@
 // tables (rows, edges, placements), the areas before the call (work, held rows, held edges, order, added, removed, splits, merges), and the same
 // after it.
 use crate::areas::Difference;
-use crate::judged::limits_at;
+use crate::judged::{layout_in, limits_at};
 use crate::line::{further, half_of, number_at};
-use crate::{areas, line, names};
-use answers::Updated;
+use crate::{areas, names};
+use answers::{Refusal, Updated};
+use types::lent::{Areas, Changes};
 use types::records::{Name, Outcome, Session, Update};
 
 pub const PARTS: usize = 54;
@@ -56,14 +57,7 @@ fn update_of(line: &[u64]) -> Update {
     }
 }
 
-fn flag(b: bool) -> u64 {
-    if b {
-        return 1;
-    }
-    0
-}
-
-fn compare_answer(answer: Updated, line: &[u64]) -> Difference {
+fn compare_answer(answer: Result<Updated, Refusal>, line: &[u64]) -> Difference {
     let u = crossing::updated::updated_words(answer);
     let words = [
         u.outcome,
@@ -86,15 +80,15 @@ fn compare_answer(answer: Updated, line: &[u64]) -> Difference {
 fn compare_session(d: Difference, s: Session, line: &[u64]) -> Difference {
     let words = [
         s.id,
-        flag(s.held),
+        s.held as u64,
         s.epoch,
         s.rows as u64,
         s.edges as u64,
-        flag(s.resolved.present),
+        s.resolved.present as u64,
         s.resolved.text,
-        flag(s.controller.present),
+        s.controller.present as u64,
         s.controller.text,
-        flag(s.secure.present),
+        s.secure.present as u64,
         s.secure.text,
     ];
     areas::compare_numbers(d, names::SESSION, &words, line, AFTER)
@@ -106,45 +100,8 @@ fn compare_outcome(o: Outcome, line: &[u64]) -> Difference {
     compare_session(d, o.session, line)
 }
 
-// The call, and what it answers by value.
-fn ask_by_value(
-    line: &[u64],
-    work: &mut [u64],
-    held: &mut [u64],
-    links: &mut [u64],
-    order: &mut [u64],
-    added: &mut [u64],
-    removed: &mut [u64],
-    splits: &mut [u64],
-    merges: &mut [u64],
-) -> Difference {
-    let outcome = watch::update_with_limits(
-        session_of(line),
-        update_of(line),
-        limits_at(line, LIMITS),
-        line::table(line, PARTS, 0),
-        line::table(line, PARTS, 1),
-        line::table(line, PARTS, 2),
-        work,
-        held,
-        links,
-        order,
-        added,
-        removed,
-        splits,
-        merges,
-    );
-    compare_outcome(outcome, line)
-}
-
 // The call with its four lists, and what of them and of the answer is not as expected.
-pub fn ask(
-    line: &[u64],
-    work: &mut [u64],
-    held: &mut [u64],
-    links: &mut [u64],
-    order: &mut [u64],
-) -> Difference {
+pub fn ask(line: &[u64], work: &mut [u64], lent: &mut Areas) -> Difference {
     let mut added = [0u64; 2048];
     let mut removed = [0u64; 2048];
     let mut splits = [0u64; 2048];
@@ -162,19 +119,23 @@ pub fn ask(
     let r = areas::length_of(line, PARTS, 8);
     let s = areas::length_of(line, PARTS, 9);
     let m = areas::length_of(line, PARTS, 10);
-    let d = ask_by_value(
-        line,
+    let mut changes = Changes {
+        added: &mut added[0..a],
+        removed: &mut removed[0..r],
+        splits: &mut splits[0..s],
+        merges: &mut merges[0..m],
+    };
+    let outcome = watch::update_with_limits(
+        session_of(line),
+        update_of(line),
+        limits_at(line, LIMITS),
+        &layout_in(line, PARTS),
         work,
-        held,
-        links,
-        order,
-        &mut added[0..a],
-        &mut removed[0..r],
-        &mut splits[0..s],
-        &mut merges[0..m],
+        lent,
+        &mut changes,
     );
     areas::compare_four(
-        d,
+        compare_outcome(outcome, line),
         names::ADDED,
         &added,
         &removed,

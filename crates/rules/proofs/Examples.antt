@@ -9,8 +9,8 @@ use lib.ListN.{replicate}
 use Rattle.lists.specs.Sort.{le3}
 use Rattle.lists.specs.Sets.{keep}
 use Rattle.answers.specs.declared.Refusal.TheVariants.{NoActiveSegments, ActiveCoverageEnd, ActiveCoverageDiscontinuity, StartOutOfBounds, EmptyLegacyTopic, DuplicatePlacement, Cycle, Depth}
-use Rattle.answers.specs.declared.Updated.{Updated}
-use Rattle.answers.specs.declared.Updated.TheVariants.{Refused, Stale, Accepted}
+use Rattle.answers.specs.Updates.{UpdateAnswer}
+use Rattle.answers.specs.Updates.{Refused, Stale, Accepted}
 use Rattle.answers.specs.declared.DagChangeReason.TheVariants.{Split, Unknown}
 use Rattle.types.specs.declared.limits.DagLimits.{DagLimits}
 use Rattle.types.specs.declared.records.Name.{Name}
@@ -91,7 +91,7 @@ record Case : Type 0 where
   update : Update
   limits : DagLimits
   lent : Tables
-  answer : Updated
+  answer : UpdateAnswer
   changes : Changes
 
 abbrev Right : List Case → Type 0
@@ -102,11 +102,11 @@ Right (c ∷ cs) =
     × Right cs
 
 -- a layout for a session that holds none
-abbrev first : ℕ → DagLimits → Tables → Updated → Changes → Case
+abbrev first : ℕ → DagLimits → Tables → UpdateAnswer → Changes → Case
 first epoch limits t answer changes =
     record { before = session false 0 0; held = []; update = layout_at epoch; limits = limits; lent = t; answer = answer; changes = changes }
 
-abbrev refused_first : ℕ → DagLimits → Tables → Updated → Case
+abbrev refused_first : ℕ → DagLimits → Tables → UpdateAnswer → Case
 refused_first epoch limits t answer = first epoch limits t answer untouched
 
 abbrev cases : List Case

@@ -9,6 +9,7 @@ pub mod Order
 pub mod Tiling
 pub mod Layout
 pub mod Judge
+pub mod Lent
 pub mod Ancestors
 pub mod Ordering
 pub mod Reading

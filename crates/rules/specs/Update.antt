@@ -6,8 +6,8 @@ use Rattle.std.specs.Prelude.{ℕ, ◌/◌, Bool, true, false, not, cond, ◌&&�
 use Rattle.lists.specs.Lists.{front}
 use Rattle.words.specs.Table.{ids}
 use Rattle.answers.specs.declared.Refusal.{Refusal}
-use Rattle.answers.specs.declared.Updated.{Updated}
-use Rattle.answers.specs.declared.Updated.TheVariants as U
+use Rattle.answers.specs.Updates.{UpdateAnswer}
+use Rattle.answers.specs.Updates as U
 use Rattle.answers.specs.Answer.{when, ◌then◌, Judged, Accepted, Refused}
 use Rattle.types.specs.declared.limits.DagLimits.{DagLimits}
 use Rattle.types.specs.declared.records.Name.{Name}
@@ -91,7 +91,7 @@ held_before h a = ids a.held held_width h
 
 -- ---- the answer, the session after it, and every lent word
 
-abbrev pub updated_of : Went → ℕ → List ℕ → List Segment → Updated
+abbrev pub updated_of : Went → ℕ → List ℕ → List Segment → UpdateAnswer
 updated_of (refused_before r) epoch before ss = U.Refused r
 updated_of stale epoch before ss = U.Stale
 updated_of (judged (Refused r)) epoch before ss = U.Refused r
@@ -150,7 +150,7 @@ update_work_after (judged j) past work = cleared_if past work
 
 -- the whole promise of an update, as one record
 pub record After : Type 0 where
-  pub answer : Updated
+  pub answer : UpdateAnswer
   pub session : Session
   pub areas : Areas
   pub changes : Changes

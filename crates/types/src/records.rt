@@ -1,6 +1,6 @@
 // Ids, row numbers, and what goes in and comes out by value. Texts are numbers: 0 is the empty one. What a host in another language
 // hands over by value has the layout of C.
-use answers::Updated;
+use answers::{Refusal, Updated};
 
 // A segment, whatever row it stands in.
 #[derive(Clone, Copy, PartialEq, Eq, Debug)]
@@ -116,5 +116,5 @@ pub struct Update {
 #[derive(Clone, Copy)]
 pub struct Outcome {
     pub session: Session,
-    pub answer: Updated,
+    pub answer: Result<Updated, Refusal>,
 }

@@ -4,6 +4,7 @@
 
 use std::io;
 use topic::Topic;
+use types::lent::Layout;
 use types::limits::DagLimits;
 use types::records::{Name, Update};
 
@@ -102,14 +103,17 @@ fn first(rt: &impl Print, t: Topic) -> io::Result<Topic> {
     let places = [1, 5, 1, 6u64];
     let mut added = [shown::SPARE; 3];
     shown::text(rt, b"one row, epoch 0, and an error:")?;
+    let layout = Layout {
+        rows: &rows,
+        edges: &none,
+        places: &places,
+    };
     topic::step(
         rt,
         t,
         first_update(),
         DagLimits::DEFAULT,
-        &rows,
-        &none,
-        &places,
+        &layout,
         &mut added,
     )
 }
@@ -128,16 +132,12 @@ fn split_too_large(rt: &impl Print, t: Topic) -> io::Result<Topic> {
     let edges = tables::SPLIT_EDGES;
     let mut added = [shown::SPARE; 3];
     shown::text(rt, b"a split, epoch 3, at most 2 segments:")?;
-    topic::step(
-        rt,
-        t,
-        plain(3),
-        TWO_SEGMENTS,
-        &rows,
-        &edges,
-        &none,
-        &mut added,
-    )
+    let layout = Layout {
+        rows: &rows,
+        edges: &edges,
+        places: &none,
+    };
+    topic::step(rt, t, plain(3), TWO_SEGMENTS, &layout, &mut added)
 }
 
 // No names come: the resolved one is kept, the others go.
@@ -174,16 +174,12 @@ fn short(rt: &impl Print, t: Topic) -> io::Result<Topic> {
     let rows = tables::HALVES;
     let mut added = [shown::SPARE; 1];
     shown::text(rt, b"epoch 4, an added list of one word:")?;
-    topic::step(
-        rt,
-        t,
-        plain(4),
-        DagLimits::DEFAULT,
-        &rows,
-        &none,
-        &none,
-        &mut added,
-    )
+    let layout = Layout {
+        rows: &rows,
+        edges: &none,
+        places: &none,
+    };
+    topic::step(rt, t, plain(4), DagLimits::DEFAULT, &layout, &mut added)
 }
 
 fn gap(rt: &impl Print, t: Topic) -> io::Result<Topic> {

@@ -31,11 +31,11 @@ fn delta(rt: &impl Print, d: DagDelta) -> io::Result<()> {
     word(rt, d.handover)
 }
 
-pub fn answer(rt: &impl Print, a: Updated) -> io::Result<()> {
+pub fn answer(rt: &impl Print, a: Result<Updated, Refusal>) -> io::Result<()> {
     match a {
-        Updated::Refused(r) => refusal(rt, r),
-        Updated::Stale => text(rt, b" T"),
-        Updated::Accepted(d) => delta(rt, d),
+        Err(r) => refusal(rt, r),
+        Ok(Updated::Stale) => text(rt, b" T"),
+        Ok(Updated::Accepted(d)) => delta(rt, d),
     }
 }
 

@@ -1,6 +1,7 @@
 // One watched topic, and one update of it: the call, and what it answers and leaves as text.
 use crate::print;
 use std::io;
+use types::lent::{Areas, Changes, Layout};
 use types::limits::DagLimits;
 use types::records::{Outcome, Session, Update};
 
@@ -25,23 +26,17 @@ pub fn new_topic() -> Topic {
     }
 }
 
-fn show_areas(rt: &impl Print, held: &[u64], links: &[u64], order: &[u64]) -> io::Result<()> {
-    shown::area(rt, b"\n  held", held)?;
-    shown::area(rt, b"\n  edges", links)?;
-    shown::area(rt, b"; order", order)
+fn show_areas(rt: &impl Print, areas: &Areas) -> io::Result<()> {
+    shown::area(rt, b"\n  held", areas.held)?;
+    shown::area(rt, b"\n  edges", areas.links)?;
+    shown::area(rt, b"; order", areas.order)
 }
 
-fn show_lists(
-    rt: &impl Print,
-    added: &[u64],
-    removed: &[u64],
-    splits: &[u64],
-    merges: &[u64],
-) -> io::Result<()> {
-    shown::area(rt, b"\n  added", added)?;
-    shown::area(rt, b"; removed", removed)?;
-    shown::area(rt, b"; splits", splits)?;
-    shown::area(rt, b"; merges", merges)
+fn show_changes(rt: &impl Print, changes: &Changes) -> io::Result<()> {
+    shown::area(rt, b"\n  added", changes.added)?;
+    shown::area(rt, b"; removed", changes.removed)?;
+    shown::area(rt, b"; splits", changes.splits)?;
+    shown::area(rt, b"; merges", changes.merges)
 }
 
 fn show_outcome(rt: &impl Print, o: Outcome) -> io::Result<()> {
@@ -50,43 +45,38 @@ fn show_outcome(rt: &impl Print, o: Outcome) -> io::Result<()> {
     print::session(rt, o.session)
 }
 
-// With lists and a work area that are new.
+// With lists and a work area that are new, but for the added list.
 fn told(
     rt: &impl Print,
     session: Session,
     update: Update,
     limits: DagLimits,
-    rows: &[u64],
-    edges: &[u64],
-    places: &[u64],
-    held: &mut [u64],
-    links: &mut [u64],
-    order: &mut [u64],
+    layout: &Layout,
+    areas: &mut Areas,
     added: &mut [u64],
 ) -> io::Result<Session> {
     let mut work = [shown::SPARE; 512];
     let mut removed = [shown::SPARE; 3];
     let mut splits = [shown::SPARE; 8];
     let mut merges = [shown::SPARE; 8];
+    let mut changes = Changes {
+        added,
+        removed: &mut removed,
+        splits: &mut splits,
+        merges: &mut merges,
+    };
     let o = watch::update_with_limits(
         session,
         update,
         limits,
-        rows,
-        edges,
-        places,
+        layout,
         &mut work,
-        held,
-        links,
-        order,
-        added,
-        &mut removed,
-        &mut splits,
-        &mut merges,
+        areas,
+        &mut changes,
     );
     show_outcome(rt, o)?;
-    show_areas(rt, held, links, order)?;
-    show_lists(rt, added, &removed, &splits, &merges)?;
+    show_areas(rt, areas)?;
+    show_changes(rt, &changes)?;
     print::work(rt, &work)?;
     Ok(o.session)
 }
@@ -97,27 +87,18 @@ pub fn step(
     topic: Topic,
     update: Update,
     limits: DagLimits,
-    rows: &[u64],
-    edges: &[u64],
-    places: &[u64],
+    layout: &Layout,
     added: &mut [u64],
 ) -> io::Result<Topic> {
     let mut held = topic.held;
     let mut links = topic.links;
     let mut order = topic.order;
-    let session = told(
-        rt,
-        topic.session,
-        update,
-        limits,
-        rows,
-        edges,
-        places,
-        &mut held,
-        &mut links,
-        &mut order,
-        added,
-    )?;
+    let mut areas = Areas {
+        held: &mut held,
+        links: &mut links,
+        order: &mut order,
+    };
+    let session = told(rt, topic.session, update, limits, layout, &mut areas, added)?;
     Ok(Topic {
         session,
         held,
@@ -137,17 +118,13 @@ pub fn usual(
 ) -> io::Result<Topic> {
     let none = [0u64; 0];
     let mut added = [shown::SPARE; 3];
-    shown::text(rt, label)?;
-    step(
-        rt,
-        topic,
-        update,
-        DagLimits::DEFAULT,
+    let layout = Layout {
         rows,
         edges,
-        &none,
-        &mut added,
-    )
+        places: &none,
+    };
+    shown::text(rt, label)?;
+    step(rt, topic, update, DagLimits::DEFAULT, &layout, &mut added)
 }
 
 // With segments that have no edges.

@@ -4,7 +4,7 @@
 use Prim.Native.Nat.{ℕ}
 use mathlib.Core.Path.{◌≡◌, sym, ◌∙◌}
 use mathlib.Core.List.{List}
-use Rattle.answers.specs.declared.Updated.{Updated}
+use Rattle.answers.specs.Updates.{UpdateAnswer}
 use Rattle.types.specs.declared.limits.DagLimits.{DagLimits}
 use Rattle.types.specs.declared.records.Session.{Session}
 use Rattle.types.specs.declared.records.Update.{Update}
@@ -12,20 +12,15 @@ use Rattle.rules.specs.Judge.{Tables, Areas}
 use Rattle.rules.specs.Update.{Changes}
 use Rattle.watch.specs.Owed.{Owed}
 
-pub owed-one : (s : Session) (u : Update) (limits : DagLimits) (t : Tables) (work : List ℕ) (a : Areas) (c : Changes) (v v' : Updated) (z z' : Session)
-    (w w' r r' l l' o o' x x' y y' p p' m m' : List ℕ)
-    → Owed s u limits t work a c v z w r l o x y p m
-    → Owed s u limits t work a c v' z' w' r' l' o' x' y' p' m'
-    → (v ≡ v') × (z ≡ z') × (w ≡ w') × (r ≡ r') × (l ≡ l') × (o ≡ o') × (x ≡ x') × (y ≡ y') × (p ≡ p') × (m ≡ m')
-owed-one s u limits t work a c v v' z z' w w' r r' l l' o o' x x' y y' p p' m m' one two = (
+pub owed-one : (s : Session) (u : Update) (limits : DagLimits) (t : Tables) (work : List ℕ) (a : Areas) (c : Changes) (v v' : UpdateAnswer) (z z' : Session)
+    (w w' : List ℕ) (b b' : Areas) (l l' : Changes)
+    → Owed s u limits t work a c v z w b l
+    → Owed s u limits t work a c v' z' w' b' l'
+    → (v ≡ v') × (z ≡ z') × (w ≡ w') × (b ≡ b') × (l ≡ l')
+owed-one s u limits t work a c v v' z z' w w' b b' l l' one two = (
   one.answer ∙ sym two.answer,
   one.session ∙ sym two.session,
   one.cleared ∙ sym two.cleared,
-  one.rows-held ∙ sym two.rows-held,
-  one.edges-held ∙ sym two.edges-held,
-  one.order-held ∙ sym two.order-held,
-  one.added-list ∙ sym two.added-list,
-  one.removed-list ∙ sym two.removed-list,
-  one.splits-list ∙ sym two.splits-list,
-  one.merges-list ∙ sym two.merges-list,
+  one.areas ∙ sym two.areas,
+  one.lists ∙ sym two.lists,
 )

@@ -2,21 +2,16 @@
 -- inputs. Each part is an equation, so two outcomes that satisfy it are equal.
 -- Assumes nothing.
 use Rattle.std.specs.Prelude.{ℕ, ◌≡◌, List}
-use Rattle.answers.specs.declared.Updated.{Updated}
+use Rattle.answers.specs.Updates.{UpdateAnswer}
 use Rattle.types.specs.declared.limits.DagLimits.{DagLimits}
 use Rattle.types.specs.declared.records.Session.{Session}
 use Rattle.types.specs.declared.records.Update.{Update}
 use Rattle.rules.specs.Judge.{Tables, Areas}
 use Rattle.rules.specs.Update.{Changes, update_after}
 
-pub record Owed (s : Session) (u : Update) (limits : DagLimits) (t : Tables) (work : List ℕ) (a : Areas) (c : Changes) (answered : Updated) (s' : Session) (work' held' links' order' added' removed' splits' merges' : List ℕ) : Type 0 where
+pub record Owed (s : Session) (u : Update) (limits : DagLimits) (t : Tables) (work : List ℕ) (a : Areas) (c : Changes) (answered : UpdateAnswer) (s' : Session) (work' : List ℕ) (a' : Areas) (c' : Changes) : Type 0 where
   pub answer : answered ≡ (update_after s u limits t work a c).answer
   pub session : s' ≡ (update_after s u limits t work a c).session
   pub cleared : work' ≡ (update_after s u limits t work a c).work
-  pub rows-held : held' ≡ (update_after s u limits t work a c).areas.held
-  pub edges-held : links' ≡ (update_after s u limits t work a c).areas.links
-  pub order-held : order' ≡ (update_after s u limits t work a c).areas.order
-  pub added-list : added' ≡ (update_after s u limits t work a c).changes.added
-  pub removed-list : removed' ≡ (update_after s u limits t work a c).changes.removed
-  pub splits-list : splits' ≡ (update_after s u limits t work a c).changes.splits
-  pub merges-list : merges' ≡ (update_after s u limits t work a c).changes.merges
+  pub areas : a' ≡ (update_after s u limits t work a c).areas
+  pub lists : c' ≡ (update_after s u limits t work a c).changes

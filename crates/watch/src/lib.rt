@@ -2,13 +2,14 @@
 // session by value and hands it back with the answer; the two `handle` calls update it where it stands.
 #![tactic(auto)]
 
-ghost use Rattle.std.specs.Prelude.{◌≡◌};
+ghost use Rattle.types.specs.Lent.{SameAreas, SameChanges};
 ghost use Rattle.rules.specs.Tables.{default_limits};
-ghost use Rattle.layout.specs.Lent.{tables_of, areas_of};
-ghost use Rattle.replacing.specs.Lent.{changes_of};
+ghost use Rattle.rules.specs.Lent.{tables_in, areas_in, changes_in};
 ghost use Rattle.watch.specs.Owed.{Owed};
 
-use answers::Updated;
+use answers::{Refusal, Updated};
+use replacing::Held;
+use types::lent::{Areas, Changes, Layout};
 use types::limits::DagLimits;
 use types::records::{Outcome, Session, Update};
 
@@ -17,55 +18,46 @@ pub fn update_with_limits(
     session: Session,
     update: Update,
     limits: DagLimits,
-    rows: &[u64],
-    edges: &[u64],
-    places: &[u64],
+    layout: &Layout,
     work: &mut [u64],
-    held: &mut [u64],
-    links: &mut [u64],
-    order: &mut [u64],
-    added: &mut [u64],
-    removed: &mut [u64],
-    splits: &mut [u64],
-    merges: &mut [u64],
+    areas: &mut Areas,
+    changes: &mut Changes,
 ) -> Outcome
-    ensures { Owed session update limits (tables_of rows.now edges.now places.now) work.old (areas_of held.old links.old order.old) (changes_of added.old removed.old splits.old merges.old) result.answer result.session work.new held.new links.new order.new added.new removed.new splits.new merges.new }
+    ensures same { SameAreas areas.old areas.new }
+    ensures same_lists { SameChanges changes.old changes.new }
+    ensures owed { Owed session update limits
+        (tables_in layout.now) work.old (areas_in areas.old) (changes_in changes.old)
+        result.answer result.session work.new (areas_in areas.new) (changes_in changes.new) }
 {
     if let Err(r) = envelope::judge_address(session, update) {
         return Outcome {
             session,
-            answer: Updated::Refused(r),
+            answer: Err(r),
         };
     }
     if envelope::is_stale(session, update) {
         return Outcome {
             session,
-            answer: Updated::Stale,
+            answer: Ok(Updated::Stale),
         };
     }
-    let h = session::held_rows(session);
-    let g = session::held_edges(session);
+    let held = Held {
+        rows: session::held_rows(session),
+        edges: session::held_edges(session),
+    };
     let answer = replacing::replace(
         update.epoch,
         update.size,
         limits,
-        h,
-        g,
-        rows,
-        edges,
-        places,
-        work,
         held,
-        links,
-        order,
-        added,
-        removed,
-        splits,
-        merges,
+        layout,
+        work,
+        areas,
+        changes,
     );
-    let n = rows.len() / rules::ROW;
+    let n = layout.rows.len() / rules::ROW;
     Outcome {
-        session: envelope::session_after(session, update, n, edges.len(), answer),
+        session: envelope::session_after(session, update, n, layout.edges.len(), answer),
         answer,
     }
 }
@@ -74,35 +66,25 @@ pub fn update_with_limits(
 pub fn update(
     session: Session,
     update: Update,
-    rows: &[u64],
-    edges: &[u64],
-    places: &[u64],
+    layout: &Layout,
     work: &mut [u64],
-    held: &mut [u64],
-    links: &mut [u64],
-    order: &mut [u64],
-    added: &mut [u64],
-    removed: &mut [u64],
-    splits: &mut [u64],
-    merges: &mut [u64],
+    areas: &mut Areas,
+    changes: &mut Changes,
 ) -> Outcome
-    ensures { Owed session update default_limits (tables_of rows.now edges.now places.now) work.old (areas_of held.old links.old order.old) (changes_of added.old removed.old splits.old merges.old) result.answer result.session work.new held.new links.new order.new added.new removed.new splits.new merges.new }
+    ensures same { SameAreas areas.old areas.new }
+    ensures same_lists { SameChanges changes.old changes.new }
+    ensures owed { Owed session update default_limits
+        (tables_in layout.now) work.old (areas_in areas.old) (changes_in changes.old)
+        result.answer result.session work.new (areas_in areas.new) (changes_in changes.new) }
 {
     update_with_limits(
         session,
         update,
         DagLimits::DEFAULT,
-        rows,
-        edges,
-        places,
+        layout,
         work,
-        held,
-        links,
-        order,
-        added,
-        removed,
-        splits,
-        merges,
+        areas,
+        changes,
     )
 }
 
@@ -111,24 +93,18 @@ pub fn handle_update_with_limits(
     session: &mut Session,
     update: Update,
     limits: DagLimits,
-    rows: &[u64],
-    edges: &[u64],
-    places: &[u64],
+    layout: &Layout,
     work: &mut [u64],
-    held: &mut [u64],
-    links: &mut [u64],
-    order: &mut [u64],
-    added: &mut [u64],
-    removed: &mut [u64],
-    splits: &mut [u64],
-    merges: &mut [u64],
-) -> Updated
-    ensures { Owed session.old update limits (tables_of rows.now edges.now places.now) work.old (areas_of held.old links.old order.old) (changes_of added.old removed.old splits.old merges.old) result session.new work.new held.new links.new order.new added.new removed.new splits.new merges.new }
+    areas: &mut Areas,
+    changes: &mut Changes,
+) -> Result<Updated, Refusal>
+    ensures same { SameAreas areas.old areas.new }
+    ensures same_lists { SameChanges changes.old changes.new }
+    ensures owed { Owed session.old update limits
+        (tables_in layout.now) work.old (areas_in areas.old) (changes_in changes.old)
+        result session.new work.new (areas_in areas.new) (changes_in changes.new) }
 {
-    let u = update_with_limits(
-        *session, update, limits, rows, edges, places, work, held, links, order, added, removed,
-        splits, merges,
-    );
+    let u = update_with_limits(*session, update, limits, layout, work, areas, changes);
     *session = u.session;
     u.answer
 }
@@ -137,24 +113,17 @@ pub fn handle_update_with_limits(
 pub fn handle_update(
     session: &mut Session,
     update: Update,
-    rows: &[u64],
-    edges: &[u64],
-    places: &[u64],
+    layout: &Layout,
     work: &mut [u64],
-    held: &mut [u64],
-    links: &mut [u64],
-    order: &mut [u64],
-    added: &mut [u64],
-    removed: &mut [u64],
-    splits: &mut [u64],
-    merges: &mut [u64],
-) -> Updated
-    ensures { Owed session.old update default_limits (tables_of rows.now edges.now places.now) work.old (areas_of held.old links.old order.old) (changes_of added.old removed.old splits.old merges.old) result session.new work.new held.new links.new order.new added.new removed.new splits.new merges.new }
+    areas: &mut Areas,
+    changes: &mut Changes,
+) -> Result<Updated, Refusal>
+    ensures same { SameAreas areas.old areas.new }
+    ensures same_lists { SameChanges changes.old changes.new }
+    ensures owed { Owed session.old update default_limits
+        (tables_in layout.now) work.old (areas_in areas.old) (changes_in changes.old)
+        result session.new work.new (areas_in areas.new) (changes_in changes.new) }
 {
-    let u = crate::update(
-        *session, update, rows, edges, places, work, held, links, order, added, removed, splits,
-        merges,
-    );
-    *session = u.session;
-    u.answer
+    let limits = DagLimits::DEFAULT;
+    handle_update_with_limits(session, update, limits, layout, work, areas, changes)
 }

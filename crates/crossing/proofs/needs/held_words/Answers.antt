@@ -1,10 +1,7 @@
-use Prim.Native.Nat.{◌*◌}
+use Prim.Native.Nat.{◌+◌, ◌*◌}
 use native.Mathlib.Omega.{arith}
-use Rattle.crossing.proofs.Capped.{low, high}
+use Rattle.crossing.proofs.Capped.{capped_is}
 use Rattle.crossing.proofs.needs.held_words.Goals as goal
 
-pub returns-then-n : goal.returns-then-n
-returns-then-n c = high (c.args.n * 15) (omega arith)
-
 pub returns : goal.returns
-returns c = low (c.args.n * 15) (omega arith)
+returns c = capped_is (c.args.n * 15) _ (λ h. omega (arith, c.saturating_mul.ensures)) (λ h. omega (arith, c.saturating_mul.ensures))

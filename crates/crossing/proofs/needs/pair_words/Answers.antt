@@ -1,10 +1,7 @@
-use Prim.Native.Nat.{◌*◌}
+use Prim.Native.Nat.{◌+◌, ◌*◌}
 use native.Mathlib.Omega.{arith}
-use Rattle.crossing.proofs.Capped.{low, high}
+use Rattle.crossing.proofs.Capped.{capped_is}
 use Rattle.crossing.proofs.needs.pair_words.Goals as goal
 
-pub returns-then-k : goal.returns-then-k
-returns-then-k c = high (2 * c.args.k) (omega arith)
-
 pub returns : goal.returns
-returns c = low (2 * c.args.k) (omega arith)
+returns c = capped_is (2 * c.args.k) _ (λ h. omega (arith, c.saturating_mul.ensures)) (λ h. omega (arith, c.saturating_mul.ensures))

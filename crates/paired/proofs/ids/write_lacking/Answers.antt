@@ -10,4 +10,4 @@ pub loop-i-preserved : goal.loop-i-preserved
 loop-i-preserved c = (search rules, search listed_next)
 
 pub returns : goal.returns
-returns c = record { value = search listed-count; out_after = search listed-is }
+returns c = record { count = search listed-count; written = search listed-is }

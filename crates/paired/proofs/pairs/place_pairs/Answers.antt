@@ -6,11 +6,11 @@ use Rattle.paired.proofs.pairs.place_pairs.Goals as goal
 pub loop-i-init : goal.loop-i-init
 loop-i-init c = (search rules, search gathered-start)
 
-pub place_child-k-requires-clause-count_bound : goal.place_child-k-requires-clause-count_bound
-place_child-k-requires-clause-count_bound c = search parents-before
+pub place_child-k-requires-clause-parents_before : goal.place_child-k-requires-clause-parents_before
+place_child-k-requires-clause-parents_before c = search parents-before
 
-pub place_child-k-requires-clause-count_in_bounds : goal.place_child-k-requires-clause-count_in_bounds
-place_child-k-requires-clause-count_in_bounds c = search pairs-room
+pub place_child-k-requires-clause-room : goal.place_child-k-requires-clause-room
+place_child-k-requires-clause-room c = search pairs-room
 
 pub overflow_add-from : goal.overflow_add-from
 overflow_add-from c = search counts-fit
@@ -22,4 +22,4 @@ pub loop-i-preserved : goal.loop-i-preserved
 loop-i-preserved c = (search rules, search gathered_next)
 
 pub returns : goal.returns
-returns c = record { placed = search gathered-end; upper_bound = search gathered-few }
+returns c = record { placed = search gathered-end; at_most_edges = search gathered-few }

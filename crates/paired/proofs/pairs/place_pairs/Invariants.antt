@@ -5,4 +5,4 @@ use Rattle.paired.proofs.Gathered.{Gathered}
 use Rattle.paired.proofs.pairs.place_pairs.Given as goal
 
 abbrev pub invariant-loop-i : goal.invariant-loop-i
-invariant-loop-i l = (l.i ≤ l.n) × Gathered l.merge (ids_in l.old l.h) l.initial.w l.w l.n l.e l.at l.from l.k l.i
+invariant-loop-i l = (l.i ≤ l.n) × Gathered l.kind (ids_in l.old l.h) l.initial.w l.w l.n l.e l.at l.from l.k l.i

@@ -11,4 +11,4 @@ abbrev pub invariant-loop-j : goal.invariant-loop-j
 invariant-loop-j l =
     (l.j ≤ l.count)
     × Placed l.initial.w l.w l.at l.k l.r
-    (map (pair_of l.merge l.child) (known (take l.j (part l.initial.w l.from l.count)) (ids_in l.old l.h)))
+    (map (pair_of l.kind l.child) (known (take l.j (part l.initial.w l.from l.count)) (ids_in l.old l.h)))
