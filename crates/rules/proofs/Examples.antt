@@ -4,11 +4,12 @@
 use Prim.Native.Nat.{ℕ}
 use mathlib.Core.Path.{◌≡◌, refl}
 use mathlib.Core.Bool.{Bool, true, false}
-use mathlib.Core.List.{List, [], ◌∷◌, ◌++◌}
+use mathlib.Core.List.{List, [], ◌∷◌, ◌++◌, map}
 use lib.ListN.{replicate}
 use Rattle.lists.specs.Sort.{le3}
 use Rattle.lists.specs.Sets.{keep}
 use Rattle.answers.specs.declared.Refusal.TheVariants.{NoActiveSegments, ActiveCoverageEnd, ActiveCoverageDiscontinuity, StartOutOfBounds, EmptyLegacyTopic, DuplicatePlacement, Cycle, Depth}
+use Rattle.answers.specs.Answer.{updated_number, updated_values}
 use Rattle.answers.specs.Updates.{UpdateAnswer}
 use Rattle.answers.specs.Updates.{Refused, Stale, Accepted}
 use Rattle.answers.specs.declared.DagChangeReason.TheVariants.{Split, Unknown}
@@ -162,3 +163,9 @@ pub right : Right cases
 unfolding le3 keep held_rows held_edges bad_head bad_place bad_held_row wrong_counts bad_table bad_layout bad_held_rows bad_held no_room_to_update size_rule places_from placements_rule range_rule state_rule descriptor_rule active_rule sealed_rule state_lifecycle lifecycle_rule items_from list_rule head_rule lists_rule row_rule edge_count_rule counted_rule rows_from rows_rule dangling_from dangling_rule epoch_rule parent_found parent_known parent_rule child_found child_known child_rule parents_rule children_rule links_rule links_from edges_rule first_ready taken depth_of touched visit order_from order_of ordered_rule order_rule misfit walk_end walk_from walked tiles ranges_of tiling_rule all_single one_merged split_rule fork_rule forks_from join_rule joins_from transitions_rule active_of walked_rule coverage_rule graph_rule layout_rule filled added_from added_of removed_of pairs_from split_pairs merge_pairs widths_active handover_of delta_of body_rule address_rule is_stale bad_tables short_to_update replace_rule went changed update_after
 right =
     (refl, refl, (refl, refl, (refl, refl, (refl, refl, (refl, refl, (refl, refl, (refl, refl, (refl, refl, (refl, refl, (refl, refl, (refl, refl, (refl, refl, tt))))))))))))
+
+-- the answers by number and values, in the order of the table
+pub numbered : map (λ (c : Case). (updated_number c.answer, updated_values c.answer)) cases
+    ≡ (0, []) ∷ (33, []) ∷ (35, 65534 ∷ 65535 ∷ []) ∷ (34, 65535 ∷ 0 ∷ 2 ∷ []) ∷ (10, 1 ∷ 65536 ∷ []) ∷ (9, 1 ∷ []) ∷ (6, 1 ∷ []) ∷ (29, [])
+    ∷ (0, []) ∷ (28, 2 ∷ 1 ∷ []) ∷ (0, []) ∷ (0, []) ∷ []
+numbered = refl
