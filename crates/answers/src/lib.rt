@@ -315,20 +315,12 @@ pub fn number(j: Result<(), Refusal>) -> u64
 #[derive(Clone, Copy, PartialEq, Eq, Debug)]
 pub enum Eligibility {
     // 51: the segment, and how many ids the first list holds
-    Unprovable {
-        id: u64,
-        count: usize,
-    },
+    Unprovable { id: u64, count: usize },
     // incomplete ancestors in the first list, remote ones in the second
-    Blocked {
-        incomplete: usize,
-        remote: usize,
-    },
+    Blocked { incomplete: usize, remote: usize },
     Eligible,
     // remote ancestors in the second list
-    BrokerManaged {
-        remote: usize,
-    },
+    BrokerManaged { remote: usize },
 }
 
 // The answer of an ordering query, refused by 1, 2 or 50, with the count of parent references that it read.

@@ -5,10 +5,10 @@ ghost use Rattle.tree.specs.Tree.{Tree, Low};
 ghost use Rattle.order.specs.Graph.{run, judge};
 ghost use Rattle.order.specs.Area.{view, tree_in, off_in, edges_in, order_in, Laid, Told};
 
+use crate::OrderError;
 use crate::begin::{begin_deg, begin_dep, begin_slots};
 use crate::slots::first_ready;
 use crate::taking::{index, take_node};
-use crate::OrderError;
 
 // Takes all n nodes, the smallest ready one first, and writes them to the words 4n..5n.
 fn arrange(m: usize, lim: u64, n: usize, w: &mut [u64]) -> Result<(), OrderError>
