@@ -164,8 +164,11 @@ unfolding le3 keep held_rows held_edges bad_head bad_place bad_held_row wrong_co
 right =
     (refl, refl, (refl, refl, (refl, refl, (refl, refl, (refl, refl, (refl, refl, (refl, refl, (refl, refl, (refl, refl, (refl, refl, (refl, refl, (refl, refl, tt))))))))))))
 
+abbrev told : Case → ℕ × List ℕ
+told c = (updated_number c.answer, updated_values c.answer)
+
 -- the answers by number and values, in the order of the table
-pub numbered : map (λ (c : Case). (updated_number c.answer, updated_values c.answer)) cases
+pub numbered : map told cases
     ≡ (0, []) ∷ (33, []) ∷ (35, 65534 ∷ 65535 ∷ []) ∷ (34, 65535 ∷ 0 ∷ 2 ∷ []) ∷ (10, 1 ∷ 65536 ∷ []) ∷ (9, 1 ∷ []) ∷ (6, 1 ∷ []) ∷ (29, [])
     ∷ (0, []) ∷ (28, 2 ∷ 1 ∷ []) ∷ (0, []) ∷ (0, []) ∷ []
 numbered = refl
