@@ -4,7 +4,7 @@ ghost use Rattle.drafts.specs.Places.{at_first, between_updates, in_place, after
 
 use reading::lines::Line;
 
-// What has been read: S, and of the update that is open U, D, e, n, c, t.
+// What has been read: S, and of the update that is open U, D, e, n, c, t. Flags and no enum: each of them comes by itself.
 #[derive(Clone, Copy, PartialEq, Eq, Debug)]
 pub struct Place {
     pub begun: bool,

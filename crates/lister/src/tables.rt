@@ -27,7 +27,8 @@ pub fn empty() -> Tables {
     }
 }
 
-// The 11 words of a segment row; false, and nothing written, where there is no room for them.
+// The 11 words of a segment row; false, and nothing written, where there is no room for them. A `bool`: it is the one way to fail, and
+// the caller stops at it.
 pub fn add_segment(rows: &mut [u64], at: usize, s: SegmentInfo) -> bool
     ensures { IsFalse result → rows.new ≡ rows.old }
 {
