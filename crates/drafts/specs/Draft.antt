@@ -1,7 +1,7 @@
 -- Document 01, "The listing program": "U opens an update, D epoch and size; .. e code, message; n, c, t the three names". What the lines of
 -- an update say, but for its tables; a line that was not there is an absent field.
 -- Assumes nothing.
-use Rattle.std.specs.Prelude.{ℕ, true, false}
+use Rattle.std.specs.Prelude.{ℕ, true, false, Option, Some, None}
 use Rattle.types.specs.declared.records.Name.{Name}
 use Rattle.types.specs.declared.records.Update.{Update}
 use Rattle.reading.specs.declared.lines.Line.{Line}
@@ -34,16 +34,17 @@ with_error u code message = record u { error = true; code = code; message = mess
 abbrev pub with_names : Update → Name → Name → Name → Update
 with_names u resolved controller secure = record u { resolved = resolved; controller = controller; secure = secure }
 
--- the update after one line more
-abbrev pub said_more : Update → Line → Update
-said_more u (L.Session id) = u
-said_more u (L.Update id) = opened_update id
-said_more u (L.Layout epoch size) = with_layout u epoch size
-said_more u (L.Segment s) = u
-said_more u (L.Placement b) = u
-said_more u (L.Error code message) = with_error u code message
-said_more u (L.Resolved n) = with_names u n u.controller u.secure
-said_more u (L.Controller n) = with_names u u.resolved n u.secure
-said_more u (L.Secure n) = with_names u u.resolved u.controller n
-said_more u L.End = u
-said_more u (L.Query id mode history completed) = u
+-- the update after one line more; an unreadable one says nothing
+abbrev pub said_more : Update → Option Line → Update
+said_more u None = u
+said_more u (Some (L.Session id)) = u
+said_more u (Some (L.Update id)) = opened_update id
+said_more u (Some (L.Layout epoch size)) = with_layout u epoch size
+said_more u (Some (L.Segment s)) = u
+said_more u (Some (L.Placement b)) = u
+said_more u (Some (L.Error code message)) = with_error u code message
+said_more u (Some (L.Resolved n)) = with_names u n u.controller u.secure
+said_more u (Some (L.Controller n)) = with_names u u.resolved n u.secure
+said_more u (Some (L.Secure n)) = with_names u u.resolved u.controller n
+said_more u (Some L.End) = u
+said_more u (Some (L.Query id mode history completed)) = u

@@ -27,10 +27,13 @@ pub fn opened(id: u64) -> Update
     }
 }
 
-// One line more. The tables' lines say nothing here.
-pub fn said(u: Update, line: Line) -> Update
+// One line more. The tables' lines say nothing here, nor does an unreadable one.
+pub fn said(u: Update, line: Option<Line>) -> Update
     ensures { result ≡ said_more u line }
 {
+    let Some(line) = line else {
+        return u;
+    };
     match line {
         Line::Update(id) => opened(id),
         Line::Layout(epoch, size) => Update {

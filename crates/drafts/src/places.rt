@@ -41,10 +41,13 @@ fn between_updates() -> Place
     }
 }
 
-// May this line stand here? An unreadable one stands nowhere: it is no `Line`.
-pub fn is_in_place(p: Place, line: Line) -> bool
+// May this line stand here? An unreadable one, None, stands nowhere.
+pub fn is_in_place(p: Place, line: Option<Line>) -> bool
     ensures { result ≡ in_place p line }
 {
+    let Some(line) = line else {
+        return false;
+    };
     match line {
         Line::Session(_) => !p.begun,
         Line::Update(_) => p.begun && !p.inside,
@@ -61,9 +64,12 @@ pub fn is_in_place(p: Place, line: Line) -> bool
 }
 
 // The place after a line that stood in its own.
-pub fn after_line(p: Place, line: Line) -> Place
+pub fn after_line(p: Place, line: Option<Line>) -> Place
     ensures { result ≡ after_line p line }
 {
+    let Some(line) = line else {
+        return p;
+    };
     match line {
         Line::Session(_) | Line::End => between_updates(),
         Line::Update(_) => Place {

@@ -162,15 +162,15 @@ impl Listing {
             &mut history,
             &mut completed,
         );
+        if !drafts::places::is_in_place(at.place, said) {
+            return stop(rt, at);
+        }
         let Some(line) = said else {
             return stop(rt, at);
         };
-        if !drafts::places::is_in_place(at.place, line) {
-            return stop(rt, at);
-        }
         let next = Standing {
-            place: drafts::places::after_line(at.place, line),
-            update: drafts::draft::said(at.update, line),
+            place: drafts::places::after_line(at.place, said),
+            update: drafts::draft::said(at.update, said),
             ..at
         };
         self.act(rt, next, line, &history, &completed)
