@@ -10,7 +10,6 @@ use Rattle.answers.specs.Answer.{◌then◌, Judged, Accepted}
 use Rattle.answers.proofs.Judging.{then-accepted}
 use Rattle.rules.specs.Model.{Segment}
 use Rattle.rules.specs.Order.{Ordered, in_order, too_deep, cyclic, ordered_rule, order_words}
-use Rattle.rules.specs.Tiling.{forks_from, joins_from, active_of, coverage_rule}
 use Rattle.tabled.specs.Image.{image_segments}
 use Rattle.ordered.specs.Left.{OrderLeft}
 use Rattle.tabled.proofs.Kept.{part-kept, segments-kept}
@@ -19,13 +18,6 @@ use Rattle.imaged.specs.Judging.{order_in, ranges_in, graph_in}
 use Rattle.imaged.proofs.Front.{front_less}
 
 module _ (w₀ w : List ℕ) (n e at : ℕ) (room : behind n e ≤ at) (kept : take at w ≡ take at w₀) (j v : Judged) (told : j ≡ Accepted) where
-  pub ranges-both : j ≡ (forks_from (image_segments w₀ n e) (image_segments w₀ n e) then joins_from (image_segments w₀ n e) (image_segments w₀ n e))
-      → v ≡ coverage_rule (active_of (image_segments w n e)) → v ≡ ranges_in (image_segments w₀ n e)
-  unfolding ranges_in
-  ranges-both said rest =
-      let S : List Segment = image_segments w₀ n e in
-      then-accepted j (forks_from S S then joins_from S S) (coverage_rule (active_of S)) v said told (rest ∙ ap (λ (t : List Segment). coverage_rule (active_of t)) (segments-kept w w₀ at kept n e room))
-
   pub graph-both : (depth : ℕ) → j ≡ ordered_rule depth (order_in depth n (image_segments w₀ n e)) → v ≡ ranges_in (image_segments w n e) → v ≡ graph_in depth n (image_segments w₀ n e)
   unfolding graph_in
   graph-both depth said rest =

@@ -8,6 +8,7 @@ ghost use Rattle.imaged.specs.Asked.{behind, Graphed};
 ghost use Rattle.imaged.specs.Judging.{order_in, ranges_in, graph_in};
 
 use answers::Refusal;
+use held::Held;
 use ordered::judging::judge_order;
 
 // 30 to 35. The words before `at` stay.
@@ -19,8 +20,15 @@ fn judge_ranges(w: &mut [u64], n: usize, e: usize, at: usize) -> Result<(), Refu
     ensures value { result ≡ ranges_in (image_segments w.old n e) }
     ensures w_unchanged { take at w.new ≡ take at w.old }
 {
-    transitions::judge_transitions(w, n, e, at)?;
-    transitions::judge_active(w, n, e, at)
+    let (image, scratch) = w.split_at_mut(at);
+    let (rows, edges) = image.split_at(n * rules::HELD);
+    let held = Held {
+        rows,
+        edges: &edges[..e],
+        count: n,
+    };
+    transitions::judge_transitions(&held, scratch)?;
+    transitions::judge_active(&held, scratch)
 }
 
 // 28 to 35. The words before `at` stay; the order is left in the n words from at + 4n on, and ranges are placed behind all that it used.

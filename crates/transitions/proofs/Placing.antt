@@ -1,4 +1,5 @@
--- The loops that place ranges, of a list of ids and of the Active rows. What is to be placed in all is what stands and then what is to come.
+-- The ranges that are placed one by one: of a list of ids, and of the Active rows. What is to be placed in all is what stands and then what is
+-- to come.
 -- Assumes nothing.
 use Prim.Native.Nat.{ℕ, ◌+◌, ◌*◌, ◌≤◌, ◌<◌}
 use native.Mathlib.Numerals.{add-one}
@@ -7,74 +8,65 @@ use mathlib.Core.Path.{◌≡◌, refl, sym, ap, ◌∙◌}
 use mathlib.Core.Bool.{Bool, true, false, cond}
 use mathlib.Core.List.{List, [], ◌∷◌, ◌++◌, append-nil, append_assoc}
 use lib.Dec.{eqb}
-use lib.ListN.{length, get_or, take, drop, drop_of_length-le}
-use lib.Seq.{drop-cons}
-use Rattle.words.specs.Part.{part}
-use Rattle.words.proofs.PartLaws.{part_length, part_at}
+use lib.ListN.{length, get_or, drop, drop_of_length-le, set}
+use lib.Seq.{drop-cons, take-suc-set}
+use Rattle.words.specs.Table.{ids, where_is, At, Nothing}
 use Rattle.lists.specs.Sort.{Row}
+use Rattle.sorts.specs.Rows.{rows}
+use Rattle.sorts.proofs.RowLaws.{le-rows}
 use Rattle.rules.specs.Model.{Segment, lookup}
 use Rattle.rules.specs.Tables.{held_width}
 use Rattle.rules.specs.Tiling.{range_of, range_found, ranges_of, active_of}
-use Rattle.tabled.specs.Image.{Image, image_segments}
+use Rattle.held.specs.declared.Held.{Held}
+use Rattle.held.specs.Front.{segments_of}
 use Rattle.transitions.specs.Ranges.{ranges, Grown, active_one}
 use Rattle.transitions.specs.Edged.{segment_of}
-use Rattle.tabled.proofs.Kept.{word_kept, segments-kept, image-kept}
-use Rattle.transitions.proofs.Kept.{segment-kept}
-use Rattle.transitions.proofs.Rowed.{segments-drop, segments-done}
+use Rattle.transitions.proofs.Rowed.{found_none, found_some, segments-drop, segments-done}
 
--- w₀ became w, with k ranges from `at` on where i things are passed: they are all of `all` but those of the rest
-pub record Placed (w₀ w : List ℕ) (at k i : ℕ) (all rest : List Row) : Type 0 where
+-- the range x was written as row k
+pub grown : (w w' : List ℕ) (k : ℕ) (x : Row) → 3 * k + 3 ≤ length w → rows w' ≡ set (rows w) k x → Grown w w' k (k + 1) (x ∷ [])
+grown w w' k x room is =
+    record { few = omega arith; here = rw (add-one k, is) (take-suc-set (rows w) k x (omega (arith, le-rows w (k + 1) (omega arith)))) }
+
+-- the range of the segment with an id
+module _ (held : Held) (id k : ℕ) (w : List ℕ) where
+  pub grown-none : Nothing ≡ where_is (ids held.rows.now held_width held.count) id → Grown w w k k (range_found (lookup id (segments_of held)))
+  grown-none said = rw (found_none held id said) (record { few = omega arith; here = sym (append-nil (ranges w k)) })
+
+  pub grown-some : (i : ℕ) → At i ≡ where_is (ids held.rows.now held_width held.count) id → (w' : List ℕ) → Grown w w' k (k + 1) (range_of (segment_of held i) ∷ [])
+      → Grown w w' k (k + 1) (range_found (lookup id (segments_of held)))
+  grown-some i said w' o = rw (found_some held id i said) o
+
+-- k ranges stand in w where i things are passed: they are all of `all` but those of the rest
+pub record Placed (w : List ℕ) (k i : ℕ) (all rest : List Row) : Type 0 where
   pub few : k ≤ i
-  pub size : length w ≡ length w₀
-  pub kept : take at w ≡ take at w₀
-  pub here : all ≡ ranges w at k ++ rest
+  pub here : all ≡ ranges w k ++ rest
 
-pub placed-start : (w : List ℕ) (at : ℕ) (all : List Row) → Placed w w at 0 0 all all
-placed-start w at all = record { few = omega arith; size = refl; kept = refl; here = refl }
+pub placed-start : (w : List ℕ) (all : List Row) → Placed w 0 0 all all
+placed-start w all = record { few = omega arith; here = refl }
 
-placed-next : (w₀ w w' : List ℕ) (at k r i : ℕ) (all more rest : List Row) → length w' ≡ length w → Placed w₀ w at k i all (more ++ rest) → Grown w w' at k r more
-    → Placed w₀ w' at r (i + 1) all rest
-placed-next w₀ w w' at k r i all more rest len p g =
+placed-next : (w w' : List ℕ) (k r i : ℕ) (all more rest : List Row) → Placed w k i all (more ++ rest) → Grown w w' k r more → Placed w' r (i + 1) all rest
+placed-next w w' k r i all more rest p g =
     record {
       few = omega (arith, p.few, g.few);
-      size = len ∙ p.size;
-      kept = g.kept ∙ p.kept;
-      here = p.here ∙ sym (append_assoc (ranges w at k) more rest) ∙ ap (λ (t : List Row). t ++ rest) (sym g.here);
+      here = p.here ∙ sym (append_assoc (ranges w k) more rest) ∙ ap (λ (t : List Row). t ++ rest) (sym g.here);
     }
 
-placed_end : (w₀ w : List ℕ) (at k i : ℕ) (all rest : List Row) → Placed w₀ w at k i all rest → rest ≡ [] → ranges w at k ≡ all
-placed_end w₀ w at k i all rest p z = sym (p.here ∙ ap (λ (t : List Row). ranges w at k ++ t) z ∙ append-nil (ranges w at k))
+placed_end : (w : List ℕ) (k i : ℕ) (all rest : List Row) → Placed w k i all rest → rest ≡ [] → ranges w k ≡ all
+placed_end w k i all rest p z = sym (p.here ∙ ap (λ (t : List Row). ranges w k ++ t) z ∙ append-nil (ranges w k))
 
 -- ---- the segments of a list of ids
 
-module _ (w₀ w : List ℕ) (n e from count at k i : ℕ) (g : Image w₀ n e) (room : n * held_width + e ≤ at) (before : from + count ≤ at) (fits : at + 3 * count ≤ length w₀)
-    (p : Placed w₀ w at k i (ranges_of (image_segments w₀ n e) (part w₀ from count)) (ranges_of (image_segments w₀ n e) (drop i (part w₀ from count)))) where
-  pub listed-image : Image w n e
-  listed-image = image-kept w w₀ at p.kept n e room p.size g
-
-  pub listed-end : count ≤ i → ranges w at k ≡ ranges_of (image_segments w₀ n e) (part w₀ from count)
+module _ (ss : List Segment) (l w : List ℕ) (k i : ℕ) (p : Placed w k i (ranges_of ss l) (ranges_of ss (drop i l))) where
+  pub listed_end : length l ≤ i → ranges w k ≡ ranges_of ss l
   unfolding ranges_of
-  listed-end h =
-      placed_end w₀ w at k i (ranges_of (image_segments w₀ n e) (part w₀ from count)) (ranges_of (image_segments w₀ n e) (drop i (part w₀ from count))) p
-      (ap (ranges_of (image_segments w₀ n e)) (drop_of_length-le (part w₀ from count) {i = i} (rw (part_length w₀ from count (omega arith)) h)))
+  listed_end h = placed_end w k i (ranges_of ss l) (ranges_of ss (drop i l)) p (ap (ranges_of ss) (drop_of_length-le l {i = i} h))
 
-  module _ (below : i < count) where
-    id-is : get_or w (from + i) 0 ≡ get_or (part w₀ from count) i 0
-    id-is = word_kept w w₀ at p.kept (from + i) (omega arith) ∙ sym (part_at w₀ from count i below)
-
-    rest-is : ranges_of (image_segments w₀ n e) (drop i (part w₀ from count))
-        ≡ range_found (lookup (get_or w (from + i) 0) (image_segments w n e)) ++ ranges_of (image_segments w₀ n e) (drop (i + 1) (part w₀ from count))
-    unfolding ranges_of
-    rest-is =
-        let l : List ℕ = part w₀ from count in
-        let h : i < length l = rw (part_length w₀ from count (omega arith)) below in
-        rw (add-one i, drop-cons l i 0 h, id-is, segments-kept w w₀ at p.kept n e room) refl
-
-    pub listed_next : (w' : List ℕ) (r : ℕ) → length w' ≡ length w → Grown w w' at k r (range_found (lookup (get_or w (from + i) 0) (image_segments w n e)))
-        → Placed w₀ w' at r (i + 1) (ranges_of (image_segments w₀ n e) (part w₀ from count)) (ranges_of (image_segments w₀ n e) (drop (i + 1) (part w₀ from count)))
-    listed_next w' r len o =
-        placed-next w₀ w w' at k r i (ranges_of (image_segments w₀ n e) (part w₀ from count)) (range_found (lookup (get_or w (from + i) 0) (image_segments w n e)))
-        (ranges_of (image_segments w₀ n e) (drop (i + 1) (part w₀ from count))) len (rw rest-is at p) o
+  pub listed_next : i < length l → (w' : List ℕ) (r : ℕ) → Grown w w' k r (range_found (lookup (get_or l i 0) ss)) → Placed w' r (i + 1) (ranges_of ss l) (ranges_of ss (drop (i + 1) l))
+  unfolding ranges_of
+  listed_next below w' r o =
+      let rest : ranges_of ss (drop i l) ≡ range_found (lookup (get_or l i 0) ss) ++ ranges_of ss (drop (i + 1) l) = rw (add-one i, drop-cons l i 0 below) refl in
+      placed-next w w' k r i (ranges_of ss l) (range_found (lookup (get_or l i 0) ss)) (ranges_of ss (drop (i + 1) l)) (rw rest at p) o
 
 -- ---- the Active rows
 
@@ -86,20 +78,14 @@ active-cons s ss = by (eqb s.head.state 1)
     by true = refl
     by false = refl
 
-module _ (w₀ w : List ℕ) (n e at k i : ℕ) (g : Image w₀ n e) (room : n * held_width + e ≤ at)
-    (p : Placed w₀ w at k i (active_of (image_segments w₀ n e)) (active_of (drop i (image_segments w₀ n e)))) where
-  pub active-image : Image w n e
-  active-image = image-kept w w₀ at p.kept n e room p.size g
-
-  pub active-end : n ≤ i → ranges w at k ≡ active_of (image_segments w₀ n e)
+module _ (held : Held) (w : List ℕ) (k i : ℕ) (p : Placed w k i (active_of (segments_of held)) (active_of (drop i (segments_of held)))) where
+  pub active_end : held.count ≤ i → ranges w k ≡ active_of (segments_of held)
   unfolding active_of
-  active-end h =
-      placed_end w₀ w at k i (active_of (image_segments w₀ n e)) (active_of (drop i (image_segments w₀ n e))) p (ap active_of (segments-done w₀ n e i h))
+  active_end h = placed_end w k i (active_of (segments_of held)) (active_of (drop i (segments_of held))) p (ap active_of (segments-done held i h))
 
-  pub active-next : i < n → (w' : List ℕ) (r : ℕ) → length w' ≡ length w → Grown w w' at k r (active_one (segment_of w n e i))
-      → Placed w₀ w' at r (i + 1) (active_of (image_segments w₀ n e)) (active_of (drop (i + 1) (image_segments w₀ n e)))
-  active-next below w' r len o =
-      let rest : active_of (drop i (image_segments w₀ n e)) ≡ active_one (segment_of w n e i) ++ active_of (drop (i + 1) (image_segments w₀ n e)) =
-      ap active_of (segments-drop w₀ n e i below) ∙ active-cons (segment_of w₀ n e i) (drop (i + 1) (image_segments w₀ n e))
-      ∙ ap (λ (s : Segment). active_one s ++ active_of (drop (i + 1) (image_segments w₀ n e))) (sym (segment-kept w w₀ at p.kept n e room i)) in
-      placed-next w₀ w w' at k r i (active_of (image_segments w₀ n e)) (active_one (segment_of w n e i)) (active_of (drop (i + 1) (image_segments w₀ n e))) len (rw rest at p) o
+  pub active_next : i < held.count → (w' : List ℕ) (r : ℕ) → Grown w w' k r (active_one (segment_of held i))
+      → Placed w' r (i + 1) (active_of (segments_of held)) (active_of (drop (i + 1) (segments_of held)))
+  active_next below w' r o =
+      let rest : active_of (drop i (segments_of held)) ≡ active_one (segment_of held i) ++ active_of (drop (i + 1) (segments_of held)) =
+      ap active_of (segments-drop held i below) ∙ active-cons (segment_of held i) (drop (i + 1) (segments_of held)) in
+      placed-next w w' k r i (active_of (segments_of held)) (active_one (segment_of held i)) (active_of (drop (i + 1) (segments_of held))) (rw rest at p) o

@@ -1,34 +1,32 @@
 // Parents with children: 30 and 31.
-ghost use Rattle.std.specs.Prelude.{◌≡◌, Bool, true, false, ◌+◌, ◌*◌, ◌<◌, ◌≤◌, length, take};
-ghost use Rattle.words.specs.Part.{part};
+ghost use Rattle.std.specs.Prelude.{◌≡◌, Bool, true, false, ◌*◌, ◌<◌, ◌≤◌, length};
 ghost use Rattle.rules.specs.Model.{lookup};
 ghost use Rattle.rules.specs.Tiling.{parent_count, all_single, one_merged, split_rule, fork_rule};
-ghost use Rattle.tabled.specs.Image.{Image, image_segments};
+ghost use Rattle.held.specs.Front.{segments_of};
 ghost use Rattle.transitions.specs.Edged.{segment_of, Listed, Edged};
 
 use crate::tile::is_tiled;
 use answers::Refusal;
+use held::Held;
+use types::records::{RowIndex, SegmentId};
 
 // How many parents the segment with that id has; 0 where there is none.
-fn parent_count(w: &[u64], n: usize, e: usize, id: u64) -> usize
-    requires { Image w.now n e }
-    ensures { result ≡ parent_count (lookup id (image_segments w.now n e)) }
+fn parent_count(held: &Held, id: u64) -> usize
+    ensures { result ≡ parent_count (lookup id (segments_of held.now)) }
 {
-    match words::find_row(w, rules::HELD, n, id) {
-        Some(i) => crate::row::parents(w, i),
+    match held.find(SegmentId(id)) {
+        Some(row) => held.parent_count(row),
         None => 0,
     }
 }
 
-// Has each of the count segments whose ids begin at word `from` one parent?
+// Has each of the segments with these ids one parent?
 #[tactic(auto, using(crate::proofs::Forked::single_other, crate::proofs::Forked::single_next, crate::proofs::Forked::single_end))]
-fn all_single(w: &[u64], n: usize, e: usize, from: usize, count: usize) -> bool
-    requires image { Image w.now n e }
-    requires ids_in_area { from + count ≤ length w.now }
-    ensures { result ≡ all_single (image_segments w.now n e) (part w.now from count) }
+fn all_single(held: &Held, ids: &[u64]) -> bool
+    ensures { result ≡ all_single (segments_of held.now) ids.now }
 {
-    for i in 0..count {
-        if parent_count(w, n, e, w[from + i]) != 1 {
+    for &id in ids {
+        if parent_count(held, id) != 1 {
             return false;
         }
     }
@@ -37,59 +35,52 @@ fn all_single(w: &[u64], n: usize, e: usize, from: usize, count: usize) -> bool
 
 // Is there one of them only, with several parents?
 #[tactic(auto, using(crate::proofs::Forked::merged_other, crate::proofs::Forked::merged_one))]
-fn one_merged(w: &[u64], n: usize, e: usize, from: usize, count: usize) -> bool
-    requires image { Image w.now n e }
-    requires ids_in_area { from + count ≤ length w.now }
-    ensures { result ≡ one_merged (image_segments w.now n e) (part w.now from count) }
+fn one_merged(held: &Held, ids: &[u64]) -> bool
+    ensures { result ≡ one_merged (segments_of held.now) ids.now }
 {
-    count == 1 && 1 < parent_count(w, n, e, w[from])
+    ids.len() == 1 && 1 < parent_count(held, ids[0])
 }
 
-// Row i, whose children are the count ids from word `from` on.
+// A row with children.
+#[tactic(auto, unfolding(rules::specs::Tiling::split_rule, rules::specs::Tiling::tiling_rule))]
 fn judge_split(
-    w: &mut [u64],
-    n: usize,
-    e: usize,
-    i: usize,
-    from: usize,
-    count: usize,
-    at: usize,
+    held: &Held,
+    row: RowIndex,
+    children: &[u64],
+    scratch: &mut [u64],
 ) -> Result<(), Refusal>
-    requires listed { Listed w.old n e i from count at }
-    requires children_listed { part w.old from count ≡ (segment_of w.old n e i).children }
-    ensures value { result ≡ split_rule (image_segments w.old n e) (segment_of w.old n e i) }
-    ensures w_unchanged { take at w.new ≡ take at w.old }
+    requires listed { Listed held.now row.0 children.now scratch.old }
+    requires all_children { children.now ≡ (segment_of held.now row.0).children }
+    ensures { result ≡ split_rule (segments_of held.now) (segment_of held.now row.0) }
 {
-    let id = w[i * rules::HELD];
-    if all_single(w, n, e, from, count) {
-        if is_tiled(w, n, e, i, from, count, at) {
+    let id = held.id(row).0;
+    if all_single(held, children) {
+        if is_tiled(held, row, children, scratch) {
             return Ok(());
         }
         return Err(Refusal::InvalidSplitCoverage { id });
     }
-    if one_merged(w, n, e, from, count) {
+    if one_merged(held, children) {
         return Ok(());
     }
     Err(Refusal::ConflictingTopology { id })
 }
 
-// Row i, whose edges begin at word `start`; a segment with no children is no parent.
+// A row whose edges begin at `start`; a segment with no children is no parent.
+#[tactic(auto, unfolding(rules::specs::Tiling::fork_rule))]
 pub(crate) fn judge_fork(
-    w: &mut [u64],
-    n: usize,
-    e: usize,
-    i: usize,
+    held: &Held,
+    row: RowIndex,
     start: usize,
-    at: usize,
+    scratch: &mut [u64],
 ) -> Result<(), Refusal>
-    requires { Edged w.old n e i start at }
-    ensures value { result ≡ fork_rule (image_segments w.old n e) (segment_of w.old n e i) }
-    ensures w_unchanged { take at w.new ≡ take at w.old }
+    requires { Edged held.now row.0 start scratch.old }
+    ensures { result ≡ fork_rule (segments_of held.now) (segment_of held.now row.0) }
 {
-    let from = start + crate::row::parents(w, i);
-    let count = crate::row::children(w, i);
+    let from = start + held.parent_count(row);
+    let count = held.child_count(row);
     if count == 0 {
         return Ok(());
     }
-    judge_split(w, n, e, i, from, count, at)
+    judge_split(held, row, &held.edges[from..from + count], scratch)
 }

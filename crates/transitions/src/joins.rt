@@ -1,31 +1,31 @@
 // Children of several parents: 32.
-ghost use Rattle.std.specs.Prelude.{◌≡◌, take};
+ghost use Rattle.std.specs.Prelude.{◌≡◌};
 ghost use Rattle.rules.specs.Tiling.{join_rule};
-ghost use Rattle.tabled.specs.Image.{Image, image_segments};
+ghost use Rattle.held.specs.Front.{segments_of};
 ghost use Rattle.transitions.specs.Edged.{segment_of, Edged};
 
 use crate::tile::is_tiled;
 use answers::Refusal;
+use held::Held;
+use types::records::RowIndex;
 
-// Row i, whose edges begin at word `start`.
+// A row whose edges begin at `start`.
+#[tactic(auto, unfolding(rules::specs::Tiling::join_rule, rules::specs::Tiling::tiling_rule))]
 pub(crate) fn judge_join(
-    w: &mut [u64],
-    n: usize,
-    e: usize,
-    i: usize,
+    held: &Held,
+    row: RowIndex,
     start: usize,
-    at: usize,
+    scratch: &mut [u64],
 ) -> Result<(), Refusal>
-    requires { Edged w.old n e i start at }
-    ensures value { result ≡ join_rule (image_segments w.old n e) (segment_of w.old n e i) }
-    ensures w_unchanged { take at w.new ≡ take at w.old }
+    requires { Edged held.now row.0 start scratch.old }
+    ensures { result ≡ join_rule (segments_of held.now) (segment_of held.now row.0) }
 {
-    let id = w[i * rules::HELD];
-    let count = crate::row::parents(w, i);
+    let id = held.id(row).0;
+    let count = held.parent_count(row);
     if count <= 1 {
         return Ok(());
     }
-    if is_tiled(w, n, e, i, start, count, at) {
+    if is_tiled(held, row, &held.edges[start..start + count], scratch) {
         return Ok(());
     }
     Err(Refusal::InvalidMergeCoverage { id })

@@ -1,48 +1,42 @@
 // The passes over all rows: every row as a parent, then every row as a child.
-ghost use Rattle.std.specs.Prelude.{◌≡◌, ◌+◌, ◌*◌, ◌≤◌, length, take};
-ghost use Rattle.rules.specs.Tables.{held_width};
-ghost use Rattle.tabled.specs.Image.{Image, image_segments};
+ghost use Rattle.std.specs.Prelude.{◌≡◌, ◌*◌, ◌≤◌, length};
+ghost use Rattle.held.specs.Front.{segments_of};
 ghost use Rattle.transitions.specs.Edged.{segment_of, Edged};
 ghost use Rattle.transitions.specs.Passes.{edges_rule, edges_from};
 
 use crate::forks::judge_fork;
 use crate::joins::judge_join;
 use answers::Refusal;
-use types::records::Side;
+use held::Held;
+use types::records::{RowIndex, Side};
 
-// Row i, whose edges begin at word `start`, by its children (30, 31) or by its parents (32).
+// A row whose edges begin at `start`, by its children (30, 31) or by its parents (32).
 fn judge_row(
     side: Side,
-    w: &mut [u64],
-    n: usize,
-    e: usize,
-    i: usize,
+    held: &Held,
+    row: RowIndex,
     start: usize,
-    at: usize,
+    scratch: &mut [u64],
 ) -> Result<(), Refusal>
-    requires { Edged w.old n e i start at }
-    ensures value { result ≡ edges_rule side (image_segments w.old n e) (segment_of w.old n e i) }
-    ensures w_unchanged { take at w.new ≡ take at w.old }
+    requires { Edged held.now row.0 start scratch.old }
+    ensures { result ≡ edges_rule side (segments_of held.now) (segment_of held.now row.0) }
 {
     match side {
-        Side::Children => judge_fork(w, n, e, i, start, at),
-        Side::Parents => judge_join(w, n, e, i, start, at),
+        Side::Children => judge_fork(held, row, start, scratch),
+        Side::Parents => judge_join(held, row, start, scratch),
     }
 }
 
 // Every row in turn, ascending by id, by its children or by its parents.
-pub fn judge_rows(side: Side, w: &mut [u64], n: usize, e: usize, at: usize) -> Result<(), Refusal>
-    requires image { Image w.old n e }
-    requires image_before { n * held_width + e ≤ at }
-    requires ranges_fit { at + 3 * e ≤ length w.old }
-    ensures value { result ≡ edges_from side (image_segments w.old n e) (image_segments w.old n e) }
-    ensures w_unchanged { take at w.new ≡ take at w.old }
+pub fn judge_rows(side: Side, held: &Held, scratch: &mut [u64]) -> Result<(), Refusal>
+    requires ranges_fit { 3 * length held.now.edges.now ≤ length scratch.old }
+    ensures { result ≡ edges_from side (segments_of held.now) (segments_of held.now) }
 {
-    let mut start = n * rules::HELD;
-    for i in 0..n {
-        let end = crate::row::edges_end(w, i, start);
-        judge_row(side, w, n, e, i, start, at)?;
-        start = end;
+    let mut start = 0;
+    for i in 0..held.count {
+        let row = RowIndex(i);
+        judge_row(side, held, row, start, scratch)?;
+        start = held.next_start(row, start);
     }
     Ok(())
 }

@@ -1,27 +1,19 @@
 // What 31 and 32 ask: do the ranges of listed segments tile the range of one?
-ghost use Rattle.std.specs.Prelude.{◌≡◌, take};
-ghost use Rattle.words.specs.Part.{part};
-ghost use Rattle.tabled.specs.Image.{image_segments};
+ghost use Rattle.std.specs.Prelude.{◌≡◌};
+ghost use Rattle.held.specs.Front.{segments_of};
 ghost use Rattle.transitions.specs.Edged.{segment_of, tiled_by, Listed};
 
-// The range of row i, by those of the segments whose ids are the count words from word `from` on.
-pub fn is_tiled(
-    w: &mut [u64],
-    n: usize,
-    e: usize,
-    i: usize,
-    from: usize,
-    count: usize,
-    at: usize,
-) -> bool
-    requires { Listed w.old n e i from count at }
-    ensures value { result ≡ tiled_by (image_segments w.old n e) (segment_of w.old n e i) (part w.old from count) }
-    ensures w_unchanged { take at w.new ≡ take at w.old }
+use held::Held;
+use types::records::RowIndex;
+
+// The range of a row, by those of the segments with these ids.
+pub fn is_tiled(held: &Held, row: RowIndex, ids: &[u64], scratch: &mut [u64]) -> bool
+    requires { Listed held.now row.0 ids.now scratch.old }
+    ensures { result ≡ tiled_by (segments_of held.now) (segment_of held.now row.0) ids.now }
 {
-    let t = i * rules::HELD;
-    let first = w[t + rules::START];
-    let last = w[t + rules::END];
-    let k = crate::place::place_listed(w, n, e, from, count, at);
-    let stop = at + 3 * k;
-    tiling::covers(&mut w[at..stop], k, first, last)
+    let t = row.0 * rules::HELD;
+    let first = held.rows[t + rules::START];
+    let last = held.rows[t + rules::END];
+    let k = crate::place::place_listed(held, ids, scratch);
+    tiling::covers(&mut scratch[..3 * k], k, first, last)
 }
