@@ -7,8 +7,11 @@ ghost use Rattle.sorts.specs.Rows.{rows};
 ghost use Rattle.rules.specs.Delta.{pair_words};
 ghost use Rattle.rules.specs.Tables.{held_width};
 ghost use Rattle.tabled.specs.Image.{Image, image_segments};
-ghost use Rattle.paired.specs.Tables.{Rows, ids_in, known};
+ghost use Rattle.paired.specs.Tables.{known};
+ghost use Rattle.paired.specs.Held.{ids_held};
 ghost use Rattle.paired.specs.Pairs.{pair_of, wanted, row_pairs, pairs_of, ascending_pairs, Placed, two_words};
+
+use crate::rows::HeldRows;
 
 // Split pairs and merge pairs.
 #[derive(Clone, Copy, PartialEq, Eq, Debug)]
@@ -57,15 +60,13 @@ fn place_parent(
     kind: PairKind,
     child: u64,
     parent: u64,
-    old: &[u64],
-    h: usize,
+    old: &HeldRows,
 ) -> usize
     requires room { at + 3 * (k + 1) ≤ length w.old }
-    requires old_rows { Rows old.now h }
     ensures { Placed w.old w.new at k result
-        (map (pair_of kind child) (known (parent ∷ []) (ids_in old.now h))) }
+        (map (pair_of kind child) (known (parent ∷ []) (ids_held old.now))) }
 {
-    if crate::ids::is_held(old, h, parent) {
+    if old.contains(parent) {
         place_pair(w, at, k, kind.pair_of(child, parent));
         return k + 1;
     }
@@ -81,32 +82,29 @@ fn place_parents(
     k: usize,
     kind: PairKind,
     child: u64,
-    old: &[u64],
-    h: usize,
+    old: &HeldRows,
 ) -> usize
     requires parents_before { from + count ≤ at }
     requires room { at + 3 * (k + count) ≤ length w.old }
-    requires old_rows { Rows old.now h }
     ensures { Placed w.old w.new at k result
-        (map (pair_of kind child) (known (part w.old from count) (ids_in old.now h))) }
+        (map (pair_of kind child) (known (part w.old from count) (ids_held old.now))) }
 {
     let mut r = k;
     // by index: the parents stand in the area that is written to, so no slice of them can be lent beside it
     for j in 0..count {
         let parent = w[from + j];
-        r = place_parent(w, at, r, kind, child, parent, old, h);
+        r = place_parent(w, at, r, kind, child, parent, old);
     }
     r
 }
 
 // How many of the listed ids were held before.
-fn count_held(list: &[u64], old: &[u64], h: usize) -> usize
-    requires { Rows old.now h }
-    ensures { result ≡ length (known list.now (ids_in old.now h)) }
+fn count_held(list: &[u64], old: &HeldRows) -> usize
+    ensures { result ≡ length (known list.now (ids_held old.now)) }
 {
     let mut held = 0;
     for &id in list {
-        if crate::ids::is_held(old, h, id) {
+        if old.contains(id) {
             held += 1;
         }
     }
@@ -122,22 +120,20 @@ fn place_child(
     k: usize,
     kind: PairKind,
     child: u64,
-    old: &[u64],
-    h: usize,
+    old: &HeldRows,
 ) -> usize
     requires parents_before { from + count ≤ at }
     requires room { at + 3 * (k + count) ≤ length w.old }
-    requires old_rows { Rows old.now h }
     ensures { Placed w.old w.new at k result
-        (row_pairs kind (ids_in old.now h) child (part w.old from count)) }
+        (row_pairs kind (ids_held old.now) child (part w.old from count)) }
 {
-    if crate::ids::is_held(old, h, child) {
+    if old.contains(child) {
         return k;
     }
     let end = from + count;
-    let held = count_held(&w[from..end], old, h);
+    let held = count_held(&w[from..end], old);
     if kind.is_wanted(held) {
-        return place_parents(w, from, count, at, k, kind, child, old, h);
+        return place_parents(w, from, count, at, k, kind, child, old);
     }
     k
 }
@@ -149,15 +145,13 @@ fn place_pairs(
     e: usize,
     at: usize,
     kind: PairKind,
-    old: &[u64],
-    h: usize,
+    old: &HeldRows,
 ) -> usize
     requires image { Image w.old n e }
     requires image_before { n * held_width + e ≤ at }
     requires work { at + 3 * e ≤ length w.old }
-    requires old_rows { Rows old.now h }
     ensures placed { Placed w.old w.new at 0 result
-        (pairs_of kind (ids_in old.now h) (image_segments w.old n e)) }
+        (pairs_of kind (ids_held old.now) (image_segments w.old n e)) }
     ensures at_most_edges { result ≤ e }
 {
     let mut from = n * rules::HELD;
@@ -168,7 +162,7 @@ fn place_pairs(
         let child = w[row];
         let count = w[row + rules::PARENTS] as usize;
         let children = w[row + rules::CHILDREN] as usize;
-        k = place_child(w, from, count, at, k, kind, child, old, h);
+        k = place_child(w, from, count, at, k, kind, child, old);
         from += count + children;
     }
     k
@@ -196,21 +190,19 @@ pub fn write_pairs(
     n: usize,
     e: usize,
     at: usize,
-    old: &[u64],
-    h: usize,
+    old: &HeldRows,
     out: &mut [u64],
 ) -> usize
     requires image { Image w.old n e }
     requires image_before { n * held_width + e ≤ at }
     requires work { at + 3 * e ≤ length w.old }
-    requires old_rows { Rows old.now h }
     requires out_fits { 2 * e ≤ length out.old }
-    ensures count { result ≡ length (ascending_pairs kind (ids_in old.now h) (image_segments w.old n e)) }
+    ensures count { result ≡ length (ascending_pairs kind (ids_held old.now) (image_segments w.old n e)) }
     ensures written { out.new ≡
-        front (pair_words (ascending_pairs kind (ids_in old.now h) (image_segments w.old n e))) out.old }
+        front (pair_words (ascending_pairs kind (ids_held old.now) (image_segments w.old n e))) out.old }
     ensures image_stays { take at w.new ≡ take at w.old }
 {
-    let k = place_pairs(w, n, e, at, kind, old, h);
+    let k = place_pairs(w, n, e, at, kind, old);
     let end = at + 3 * k;
     sorts::sort3(&mut w[at..end], k);
     copy_pairs(out, &w[at..end], k);

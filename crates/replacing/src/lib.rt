@@ -14,6 +14,7 @@ ghost use Rattle.replacing.specs.Stored.{Room, Storable, Stored, Finished, pairs
 ghost use Rattle.replacing.specs.Lent.{Replaced};
 
 use answers::{DagDelta, Refusal, Updated};
+use paired::rows::HeldRows;
 use types::lent::{Areas, Changes, Layout};
 use types::limits::DagLimits;
 
@@ -44,7 +45,11 @@ fn write_delta(
     ensures layout_stays { take (pairs_at n e) w.new ≡ take (pairs_at n e) w.old }
 {
     let at = n * rules::HELD + e + 5 * n;
-    delta::write_delta(w, n, e, at, epoch, areas.held, h, changes)
+    let old = HeldRows {
+        rows: areas.held,
+        count: h,
+    };
+    delta::write_delta(w, n, e, at, epoch, &old, changes)
 }
 
 // The delta is told, and then the n rows with e edge words at the front of w are stored. The work area is cleared.

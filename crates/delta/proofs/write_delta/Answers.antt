@@ -2,8 +2,8 @@
 use Rattle.delta.proofs.Told.{lent_rows, lent-widths, told-changed, told-delta}
 use Rattle.delta.proofs.write_delta.Goals as goal
 
-pub write_moved-moved-requires-clause-new_rows : goal.write_moved-moved-requires-clause-new_rows
-write_moved-moved-requires-clause-new_rows c = search lent_rows
+pub invariant_of-rows : goal.invariant_of-rows
+invariant_of-rows c = record { ascend = search lent_rows }
 
 pub write_moved-moved-requires-clause-widths_fit : goal.write_moved-moved-requires-clause-widths_fit
 write_moved-moved-requires-clause-widths_fit c = search lent-widths

@@ -2,10 +2,10 @@
 use Rattle.paired.proofs.Placing.{count-start, count-hit, count-miss}
 use borrow.Author.Rules.{rules}
 use Rattle.paired.proofs.pairs.count_held.Goals as goal
-use Rattle.paired.proofs.pairs.count_held.Goals.{then-is_held, else-is_held}
+use Rattle.paired.proofs.pairs.count_held.Goals.{then-contains, else-contains}
 
 pub loop-id-init : goal.loop-id-init
 loop-id-init c = (search rules, search rules, search count-start)
 
 pub loop-id-preserved : goal.loop-id-preserved
-loop-id-preserved c = elim c.if-is_held.branch [ then-is_held w ↦ (search rules, search rules, search count-hit) | else-is_held w ↦ (search rules, search rules, search count-miss) ]
+loop-id-preserved c = elim c.if-contains.branch [ then-contains w ↦ (search rules, search rules, search count-hit) | else-contains w ↦ (search rules, search rules, search count-miss) ]

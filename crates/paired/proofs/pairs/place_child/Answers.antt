@@ -3,8 +3,8 @@
 use Rattle.paired.proofs.Placing.{child_held, child_unwanted, child_wanted}
 use Rattle.paired.proofs.pairs.place_child.Goals as goal
 
-pub returns-then-is_held : goal.returns-then-is_held
-returns-then-is_held c = search child_held
+pub returns-then-contains : goal.returns-then-contains
+returns-then-contains c = search child_held
 
 pub returns-then-is_wanted : goal.returns-then-is_wanted
 returns-then-is_wanted c = search child_wanted

@@ -6,8 +6,8 @@ use Rattle.paired.proofs.pairs.place_parents.Goals as goal
 pub loop-j-init : goal.loop-j-init
 loop-j-init c = (search rules, search parents-start)
 
-pub place_parent-r-requires-clause-room : goal.place_parent-r-requires-clause-room
-place_parent-r-requires-clause-room c = search parents-room
+pub place_parent-r-requires : goal.place_parent-r-requires
+place_parent-r-requires c = search parents-room
 
 pub loop-j-preserved : goal.loop-j-preserved
 loop-j-preserved c = (search rules, search parents-next)
