@@ -1,6 +1,6 @@
--- `paired::pairs::place_parent` meets its contract: a parent that was held makes one pair, another none.
+-- A parent that was held makes one pair, another none.
 use Rattle.paired.proofs.Placing.{parent_skip, parent_put}
-use Rattle.paired.proofs.pairs.place_parent.Goals as goal
+use Rattle.paired.proofs.pairs.Child.place_parent.Goals as goal
 
 pub returns-then-contains : goal.returns-then-contains
 returns-then-contains c = search parent_put

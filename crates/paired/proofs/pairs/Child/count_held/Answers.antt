@@ -1,8 +1,8 @@
--- `paired::pairs::count_held` meets its contract: after j turns `held` counts those among the first j ids that were held.
+-- An id that was held counts, another does not.
 use Rattle.paired.proofs.Placing.{count-start, count-hit, count-miss}
 use borrow.Author.Rules.{rules}
-use Rattle.paired.proofs.pairs.count_held.Goals as goal
-use Rattle.paired.proofs.pairs.count_held.Goals.{then-contains, else-contains}
+use Rattle.paired.proofs.pairs.Child.count_held.Goals as goal
+use Rattle.paired.proofs.pairs.Child.count_held.Goals.{then-contains, else-contains}
 
 pub loop-id-init : goal.loop-id-init
 loop-id-init c = (search rules, search rules, search count-start)

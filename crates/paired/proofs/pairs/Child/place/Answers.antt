@@ -1,7 +1,6 @@
--- `paired::pairs::place_child` meets its contract: a row that was held, or has not as many held parents as the kind asks for, makes no pair; else
--- each of these parents makes one.
+-- A row that was held, or has not as many held parents as the kind asks for, makes no pair; else each of these parents makes one.
 use Rattle.paired.proofs.Placing.{child_held, child_unwanted, child_wanted}
-use Rattle.paired.proofs.pairs.place_child.Goals as goal
+use Rattle.paired.proofs.pairs.Child.place.Goals as goal
 
 pub returns-then-contains : goal.returns-then-contains
 returns-then-contains c = search child_held
