@@ -1,4 +1,4 @@
-// The delta: what an accepted layout changed, from the image of the new rows and the rows held before.
+// The delta: what an accepted layout changed, told from the image of the new rows and the rows held before.
 #![tactic(auto)]
 
 ghost use Rattle.std.specs.Prelude.{◌≡◌, ◌*◌, ◌≤◌, length};
@@ -75,7 +75,7 @@ fn write_moved(rows: &HeldRows, old: &HeldRows, changes: &mut Changes) -> Moved
     }
 }
 
-// The delta of an image against the rows held before: the four lists at the front of theirs, and how long they are.
+// The delta of an image against the rows held before. The four lists are written at the front of theirs.
 pub fn write_delta(
     epoch: u64,
     image: &Held,
@@ -85,7 +85,8 @@ pub fn write_delta(
 ) -> DagDelta
     requires work { 3 * length image.now.edges.now ≤ length scratch.old }
     requires widths_fit { widths_active (segments_of image.now) ≤ 65536 }
-    requires lists_fit { Lists image.now.count (length image.now.edges.now) old.now.count (changes_in changes.old) }
+    requires lists_fit { Lists image.now.count (length image.now.edges.now)
+        old.now.count (changes_in changes.old) }
     ensures value { result ≡ delta_from epoch (ids_held old.now) (segments_of image.now) }
     ensures same { SameChanges changes.old changes.new }
     ensures written { changes_in changes.new ≡

@@ -7,7 +7,8 @@ ghost use Rattle.delta.specs.Bare.{bare};
 
 use paired::rows::HeldRows;
 
-// How many hashes, if that is the state of an Active row. The rule takes an end before the start for one hash, so no range needs judging here.
+// How many hashes, if that is the state of an Active row. The rule takes an end before the start for one hash,
+// so no range needs judging here.
 fn active_width(state: u64, start: u64, end: u64) -> u64
     requires { cond (eqb state 1) (end - start + 1) 0 ≤ 65536 }
     ensures { result ≡ cond (eqb state 1) (end - start + 1) 0 }
@@ -25,7 +26,8 @@ fn active_width(state: u64, start: u64, end: u64) -> u64
 fn handed_over(rows: &[u64], w: usize, old: &HeldRows) -> u64
     requires row_in_table { w + held_width ≤ length rows.now }
     requires width_fits { widths_active (segment_at rows.now [] w 0 ∷ []) ≤ 65536 }
-    ensures { result ≡ widths_active (added_from (ids_held old.now) (segment_at rows.now [] w 0 ∷ [])) }
+    ensures { result ≡
+        widths_active (added_from (ids_held old.now) (segment_at rows.now [] w 0 ∷ [])) }
 {
     if old.contains(rows[w]) {
         return 0;
@@ -40,9 +42,11 @@ fn handed_over(rows: &[u64], w: usize, old: &HeldRows) -> u64
 // Over all rows. An accepted layout's Active rows have 65536 hashes together, so no sum can wrap.
 pub fn handover(rows: &HeldRows, old: &HeldRows) -> u64
     requires widths_fit { widths_active (bare rows.now.rows.now rows.now.count) ≤ 65536 }
-    ensures { result ≡ widths_active (added_from (ids_held old.now) (bare rows.now.rows.now rows.now.count)) }
+    ensures { result ≡
+        widths_active (added_from (ids_held old.now) (bare rows.now.rows.now rows.now.count)) }
 {
     let mut sum = 0;
+    // by index: what is lent are words, and a row is read from them by its number
     for i in 0..rows.count {
         sum += handed_over(rows.rows, i * rules::HELD, old);
     }

@@ -1,5 +1,5 @@
-// The pairs of the delta: which new rows split a row held before or merge several, from the image of the new rows and the rows held
-// before. And the search that they share with the rest of the delta: was this id held before (`rows`)?
+// The pairs of the delta: which new rows split a row held before or merge several. They are told from the image of
+// the new rows and the rows held before (`rows`). The ids that came and went are listed beside them (`ids`).
 #![tactic(auto)]
 
 ghost use Rattle.std.specs.Prelude.{◌≡◌, ◌*◌, ◌≤◌, length};
@@ -25,7 +25,7 @@ pub struct Paired {
     pub merges: usize,
 }
 
-// The pairs of both kinds, at the front of their lists. They are made one kind after the other in the same scratch.
+// The pairs of both kinds, at the front of their lists, made one kind after the other in the same scratch.
 #[tactic(auto, unfolding(crate::specs::Pairs::ascending_pairs, crate::specs::Pairs::pairs_of, crate::specs::Pairs::splits_from, crate::specs::Pairs::merges_from))]
 pub fn write_paired(
     image: &Held,
@@ -36,8 +36,10 @@ pub fn write_paired(
     requires work { 3 * length image.now.edges.now ≤ length scratch.old }
     requires splits_fit { 2 * length image.now.edges.now ≤ length changes.old.splits.now }
     requires merges_fit { 2 * length image.now.edges.now ≤ length changes.old.merges.now }
-    ensures splits { result.splits ≡ length (splits_from (ids_held old.now) (segments_of image.now)) }
-    ensures merges { result.merges ≡ length (merges_from (ids_held old.now) (segments_of image.now)) }
+    ensures splits { result.splits ≡
+        length (splits_from (ids_held old.now) (segments_of image.now)) }
+    ensures merges { result.merges ≡
+        length (merges_from (ids_held old.now) (segments_of image.now)) }
     ensures same { SameChanges changes.old changes.new }
     ensures written { changes_in changes.new ≡
         paired_from (ids_held old.now) (segments_of image.now) (changes_in changes.old) }

@@ -1,5 +1,6 @@
-// Split pairs and merge pairs: placed in the scratch as rows of three words, sorted there, and written out two words to a pair. The two
-// kinds differ in how many parents held before they ask for, and in which of parent and child comes first.
+// Split pairs and merge pairs: placed in the scratch as rows of three words, sorted there, and written out two words
+// to a pair. The two kinds differ in how many parents held before they ask for, and in which of parent and child
+// comes first.
 ghost use Rattle.std.specs.Prelude.{◌≡◌, true, false, [], ◌∷◌, map, ◌+◌, ◌*◌, ◌≤◌, length};
 ghost use Rattle.lists.specs.Lists.{front};
 ghost use Rattle.sorts.specs.Rows.{rows};
@@ -43,6 +44,7 @@ impl PairKind {
 }
 
 // The pair as row k.
+#[tactic(auto, using(crate::proofs::Placing::placed_pair))]
 fn place_pair(scratch: &mut [u64], k: usize, pair: (u64, u64))
     requires { 3 * (k + 1) ≤ length scratch.old }
     ensures { Placed scratch.old scratch.new k (k + 1) (pair ∷ []) }
@@ -60,11 +62,12 @@ struct Child<'a> {
 }
 
 impl<'a> Child<'a> {
-    // The pair with one parent as row k, if that parent was held before; how many rows there are then.
+    // The pair with one parent as row k, if it was held before; how many rows there are then.
     fn place_parent(&self, scratch: &mut [u64], k: usize, parent: u64) -> usize
         requires { 3 * (k + 1) ≤ length scratch.old }
         ensures { Placed scratch.old scratch.new k result
-            (map (pair_of self.now.kind self.now.id) (known (parent ∷ []) (ids_held self.now.old))) }
+            (map (pair_of self.now.kind self.now.id)
+            (known (parent ∷ []) (ids_held self.now.old))) }
     {
         if self.old.contains(parent) {
             place_pair(scratch, k, self.kind.pair_of(self.id, parent));
@@ -164,9 +167,11 @@ pub fn write_pairs(
 ) -> usize
     requires work { 3 * length image.now.edges.now ≤ length scratch.old }
     requires out_fits { 2 * length image.now.edges.now ≤ length out.old }
-    ensures count { result ≡ length (ascending_pairs kind (ids_held old.now) (segments_of image.now)) }
+    ensures count { result ≡
+        length (ascending_pairs kind (ids_held old.now) (segments_of image.now)) }
     ensures written { out.new ≡
-        front (pair_words (ascending_pairs kind (ids_held old.now) (segments_of image.now))) out.old }
+        front (pair_words (ascending_pairs kind (ids_held old.now) (segments_of image.now)))
+        out.old }
 {
     let k = place_pairs(kind, image, old, scratch);
     let end = 3 * k;

@@ -1,4 +1,4 @@
-// The rows of a held table: that they ascend by id is a fact of the type, and no clause above repeats it.
+// The rows of a held table. That they ascend by id is a fact of the type, so no clause repeats it.
 #![tactic(auto)]
 
 ghost use Rattle.std.specs.Prelude.{◌≡◌};

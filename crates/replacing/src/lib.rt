@@ -26,8 +26,8 @@ pub struct Counts {
     pub edges: usize,
 }
 
-// The delta against the h rows that are held, before the new ones are stored over them. The image and the order behind it are lent to be
-// read, and the pairs are made in what stands behind both.
+// The delta against the h rows that are held, before the new ones are stored over them. The image is lent to be read;
+// its pairs are made behind it and the order list.
 fn write_delta(
     w: &mut [u64],
     laid: Counts,
@@ -39,7 +39,8 @@ fn write_delta(
     requires storable { Storable w.old laid.rows laid.edges }
     requires room { Room laid.rows laid.edges h (areas_in areas.now) (changes_in changes.old) }
     ensures value { result ≡
-        delta_from epoch (held_before h (areas_in areas.now)) (image_segments w.old laid.rows laid.edges) }
+        delta_from epoch (held_before h (areas_in areas.now))
+        (image_segments w.old laid.rows laid.edges) }
     ensures same_lists { SameChanges changes.old changes.new }
     ensures written { changes_in changes.new ≡ changed_from (held_before h (areas_in areas.now))
         (image_segments w.old laid.rows laid.edges) (changes_in changes.old) }
@@ -74,8 +75,9 @@ fn accept(
     requires room { Room laid.rows laid.edges h (areas_in areas.old) (changes_in changes.old) }
     ensures same { SameAreas areas.old areas.new }
     ensures same_lists { SameChanges changes.old changes.new }
-    ensures stored { Stored w.old laid.rows laid.edges epoch h (areas_in areas.old) (changes_in changes.old)
-        result w.new (areas_in areas.new) (changes_in changes.new) }
+    ensures stored { Stored w.old laid.rows laid.edges epoch h
+        (areas_in areas.old) (changes_in changes.old) result
+        w.new (areas_in areas.new) (changes_in changes.new) }
 {
     let d = write_delta(w, laid, epoch, h, areas, changes);
     layout::store(w, laid.rows, laid.edges, areas);
@@ -98,7 +100,8 @@ fn finish(
     ensures same { SameAreas areas.old areas.new }
     ensures same_lists { SameChanges changes.old changes.new }
     ensures finished { Finished judged w.old laid.rows laid.edges epoch h
-        (areas_in areas.old) (changes_in changes.old) result w.new (areas_in areas.new) (changes_in changes.new) }
+        (areas_in areas.old) (changes_in changes.old) result
+        w.new (areas_in areas.new) (changes_in changes.new) }
 {
     match judged {
         Ok(()) => Ok(Updated::Accepted(accept(w, laid, epoch, h, areas, changes))),
@@ -111,7 +114,8 @@ fn finish(
 
 // 1, of the tables that are held.
 fn is_bad_held(areas: &Areas, held: Counts) -> bool
-    ensures { result ≡ bad_held (areas_in areas.now).held (areas_in areas.now).links held.rows held.edges }
+    ensures { result ≡
+        bad_held (areas_in areas.now).held (areas_in areas.now).links held.rows held.edges }
 {
     shape::tables::is_bad_held(areas.held, areas.links, held.rows, held.edges)
 }
