@@ -1,17 +1,19 @@
-// Document 01's delta: what an accepted layout changed, from the image of the new rows and the old held rows.
+// The delta: what an accepted layout changed, told from the image of the new rows and the rows held before.
 #![tactic(auto)]
 
-ghost use Rattle.std.specs.Prelude.{◌≡◌, ◌+◌, ◌*◌, ◌≤◌, length, take};
+ghost use Rattle.std.specs.Prelude.{◌≡◌, ◌*◌, ◌≤◌, length};
 ghost use Rattle.types.specs.Lent.{SameChanges};
-ghost use Rattle.rules.specs.Tables.{held_width};
 ghost use Rattle.rules.specs.Delta.{added_from, widths_active, reason_of, consume_affecting};
 ghost use Rattle.rules.specs.Lent.{changes_in};
-ghost use Rattle.tabled.specs.Image.{Image, image_segments};
-ghost use Rattle.paired.specs.Tables.{Rows, ids_in, lacking};
+ghost use Rattle.held.specs.Front.{segments_of};
+ghost use Rattle.paired.specs.Tables.{lacking};
+ghost use Rattle.paired.specs.Held.{ids_held};
 ghost use Rattle.delta.specs.Bare.{bare};
 ghost use Rattle.delta.specs.Changed.{Lists, moved_from, delta_from, changed_from};
 
 use answers::{DagChangeReason, DagDelta};
+use held::Held;
+use paired::rows::HeldRows;
 use types::lent::Changes;
 
 pub mod widths;
@@ -49,58 +51,53 @@ struct Moved {
     handover: u64,
 }
 
-// The ids that only the n new rows have, those that only the h old rows have, and the handover.
-fn write_moved(rows: &[u64], n: usize, old: &[u64], h: usize, changes: &mut Changes) -> Moved
-    requires new_rows { Rows rows.now n }
-    requires widths_fit { widths_active (bare rows.now n) ≤ 65536 }
-    requires old_rows { Rows old.now h }
-    requires added_fit { n ≤ length changes.old.added.now }
-    requires removed_fit { h ≤ length changes.old.removed.now }
-    ensures added { result.added ≡ length (lacking (ids_in rows.now n) (ids_in old.now h)) }
-    ensures removed { result.removed ≡ length (lacking (ids_in old.now h) (ids_in rows.now n)) }
-    ensures handover { result.handover ≡ widths_active (added_from (ids_in old.now h) (bare rows.now n)) }
+// The ids that only the new rows have, those that only the old rows have, and the handover.
+fn write_moved(rows: &HeldRows, old: &HeldRows, changes: &mut Changes) -> Moved
+    requires widths_fit { widths_active (bare rows.now.rows.now rows.now.count) ≤ 65536 }
+    requires added_fit { rows.now.count ≤ length changes.old.added.now }
+    requires removed_fit { old.now.count ≤ length changes.old.removed.now }
+    ensures added { result.added ≡ length (lacking (ids_held rows.now) (ids_held old.now)) }
+    ensures removed { result.removed ≡ length (lacking (ids_held old.now) (ids_held rows.now)) }
+    ensures handover { result.handover ≡
+        widths_active (added_from (ids_held old.now) (bare rows.now.rows.now rows.now.count)) }
     ensures same { SameChanges changes.old changes.new }
     ensures written { changes_in changes.new ≡
-        moved_from (ids_in old.now h) (ids_in rows.now n) (changes_in changes.old) }
+        moved_from (ids_held old.now) (ids_held rows.now) (changes_in changes.old) }
 {
     let added = &mut *changes.added;
-    let more = paired::ids::write_lacking(added, rows, n, old, h);
+    let more = paired::ids::write_lacking(added, rows, old);
     let removed = &mut *changes.removed;
-    let fewer = paired::ids::write_lacking(removed, old, h, rows, n);
+    let fewer = paired::ids::write_lacking(removed, old, rows);
     Moved {
         added: more,
         removed: fewer,
-        handover: widths::handover(rows, n, old, h),
+        handover: widths::handover(rows, old),
     }
 }
 
-// The delta of the image of n rows and e edge words at the front of w against the h rows held before: the four lists at the front of
-// theirs, and how long they are. Rows are written from word `at` on; the words before it stay.
+// The delta of an image against the rows held before. The four lists are written at the front of theirs.
 pub fn write_delta(
-    w: &mut [u64],
-    n: usize,
-    e: usize,
-    at: usize,
     epoch: u64,
-    old: &[u64],
-    h: usize,
+    image: &Held,
+    old: &HeldRows,
+    scratch: &mut [u64],
     changes: &mut Changes,
 ) -> DagDelta
-    requires image { Image w.old n e }
-    requires image_before { n * held_width + e ≤ at }
-    requires work { at + 3 * e ≤ length w.old }
-    requires widths_fit { widths_active (image_segments w.old n e) ≤ 65536 }
-    requires old_rows { Rows old.now h }
-    requires lists_fit { Lists n e h (changes_in changes.old) }
-    ensures value { result ≡ delta_from epoch (ids_in old.now h) (image_segments w.old n e) }
+    requires work { 3 * length image.now.edges.now ≤ length scratch.old }
+    requires widths_fit { widths_active (segments_of image.now) ≤ 65536 }
+    requires lists_fit { Lists image.now.count (length image.now.edges.now)
+        old.now.count (changes_in changes.old) }
+    ensures value { result ≡ delta_from epoch (ids_held old.now) (segments_of image.now) }
     ensures same { SameChanges changes.old changes.new }
     ensures written { changes_in changes.new ≡
-        changed_from (ids_in old.now h) (image_segments w.old n e) (changes_in changes.old) }
-    ensures image_stays { take at w.new ≡ take at w.old }
+        changed_from (ids_held old.now) (segments_of image.now) (changes_in changes.old) }
 {
-    let k = n * rules::HELD;
-    let moved = write_moved(&w[0..k], n, old, h, changes);
-    let paired = paired::write_paired(w, n, e, at, old, h, changes);
+    let rows = HeldRows {
+        rows: image.rows,
+        count: image.count,
+    };
+    let moved = write_moved(&rows, old, changes);
+    let paired = paired::write_paired(image, old, scratch, changes);
     DagDelta {
         epoch,
         added: moved.added,

@@ -2,10 +2,13 @@
 ghost use Rattle.std.specs.Prelude.{◌≡◌, cond, [], ◌∷◌, ◌+◌, ◌-◌, ◌*◌, ◌<◌, ◌≤◌, eqb, length};
 ghost use Rattle.rules.specs.Tables.{held_width, segment_at};
 ghost use Rattle.rules.specs.Delta.{added_from, widths_active};
-ghost use Rattle.paired.specs.Tables.{Rows, ids_in};
+ghost use Rattle.paired.specs.Held.{ids_held};
 ghost use Rattle.delta.specs.Bare.{bare};
 
-// How many hashes, if that is the state of an Active row. The rule takes an end before the start for one hash, so no range needs judging here.
+use paired::rows::HeldRows;
+
+// How many hashes, if that is the state of an Active row. The rule takes an end before the start for one hash,
+// so no range needs judging here.
 fn active_width(state: u64, start: u64, end: u64) -> u64
     requires { cond (eqb state 1) (end - start + 1) 0 ≤ 65536 }
     ensures { result ≡ cond (eqb state 1) (end - start + 1) 0 }
@@ -20,13 +23,13 @@ fn active_width(state: u64, start: u64, end: u64) -> u64
 }
 
 // The width of the row that begins at word w, if it is Active and was not held before.
-fn handed_over(rows: &[u64], w: usize, old: &[u64], h: usize) -> u64
-    requires held_width_in_bounds { w + held_width ≤ length rows.now }
-    requires rows { Rows old.now h }
-    requires w_bound { widths_active (segment_at rows.now [] w 0 ∷ []) ≤ 65536 }
-    ensures { result ≡ widths_active (added_from (ids_in old.now h) (segment_at rows.now [] w 0 ∷ [])) }
+fn handed_over(rows: &[u64], w: usize, old: &HeldRows) -> u64
+    requires row_in_table { w + held_width ≤ length rows.now }
+    requires width_fits { widths_active (segment_at rows.now [] w 0 ∷ []) ≤ 65536 }
+    ensures { result ≡
+        widths_active (added_from (ids_held old.now) (segment_at rows.now [] w 0 ∷ [])) }
 {
-    if paired::ids::is_held(old, h, rows[w]) {
+    if old.contains(rows[w]) {
         return 0;
     }
     active_width(
@@ -36,16 +39,16 @@ fn handed_over(rows: &[u64], w: usize, old: &[u64], h: usize) -> u64
     )
 }
 
-// Over all n rows. An accepted layout's Active rows have 65536 hashes together, so no sum can wrap.
-pub fn handover(rows: &[u64], n: usize, old: &[u64], h: usize) -> u64
-    requires held_width_in_bounds { n * held_width ≤ length rows.now }
-    requires rows { Rows old.now h }
-    requires n_bound { widths_active (bare rows.now n) ≤ 65536 }
-    ensures { result ≡ widths_active (added_from (ids_in old.now h) (bare rows.now n)) }
+// Over all rows. An accepted layout's Active rows have 65536 hashes together, so no sum can wrap.
+pub fn handover(rows: &HeldRows, old: &HeldRows) -> u64
+    requires widths_fit { widths_active (bare rows.now.rows.now rows.now.count) ≤ 65536 }
+    ensures { result ≡
+        widths_active (added_from (ids_held old.now) (bare rows.now.rows.now rows.now.count)) }
 {
     let mut sum = 0;
-    for i in 0..n {
-        sum += handed_over(rows, i * rules::HELD, old, h);
+    // by index: what is lent are words, and a row is read from them by its number
+    for i in 0..rows.count {
+        sum += handed_over(rows.rows, i * rules::HELD, old);
     }
     sum
 }

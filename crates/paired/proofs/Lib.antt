@@ -2,4 +2,3 @@ pub mod Listed
 pub mod Placing
 pub mod Gathered
 pub mod Sorting
-pub mod After

@@ -1,6 +1,6 @@
 -- Ids listed one by one: a search in a table tells whether it has an id, and the ids that it lacks stand one behind the other.
---     has-found      `has` and the search agree
---     listed_start, listed_next, listed-end     the loop that lists them
+--     found_has, missing_has     `has` and the search agree
+--     listed_start, listed_next, listed-count, listed-is     the loop that lists them
 -- Assumes nothing.
 use Prim.Native.Nat.{ℕ, ◌+◌, ◌*◌, ◌≤◌, ◌<◌}
 use native.Mathlib.Numerals.{add-one}

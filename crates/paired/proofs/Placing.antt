@@ -1,4 +1,4 @@
--- Pairs placed in the work area: what is placed behind what is placed is placed (`placed-then`), so that the pairs of a list of parents,
+-- Pairs placed in the scratch: what is placed behind what is placed is placed (`placed-then`), so that the pairs of a list of parents,
 -- and of a row, stand one behind the other.
 -- Assumes nothing.
 use Prim.Native.Nat.{ℕ, suc, ◌+◌, ◌-◌, ◌*◌, ◌≤◌, ◌<◌}
@@ -14,60 +14,36 @@ use Rattle.lists.specs.Lists.{has}
 use Rattle.lists.specs.Sets.{keep}
 use Rattle.lists.specs.Sort.{Row}
 use Rattle.lists.proofs.SetLaws.{keep-shorter, never}
-use Rattle.words.specs.Part.{part, put}
-use Rattle.words.proofs.PartLaws.{Loan, loan, part-as, part_length, part_at}
 use Rattle.sorts.specs.Rows.{rows}
 use Rattle.sorts.proofs.RowLaws.{le-rows}
 use Rattle.rules.specs.Delta.{Pair}
 use Rattle.paired.specs.Tables.{known}
 use Rattle.paired.specs.declared.pairs.PairKind.{PairKind}
 use Rattle.paired.specs.declared.pairs.PairKind.TheVariants.{Split, Merge}
-use Rattle.paired.specs.Pairs.{kind_of, wanted, pair_of, row_pairs, row_of, rows_at, Placed}
+use Rattle.paired.specs.Pairs.{kind_of, wanted, pair_of, row_pairs, row_of, Placed}
 use Rattle.paired.proofs.Listed.{keep_append}
-use Rattle.tabled.proofs.Kept.{word_kept}
 
 -- ---- nothing, one behind the other, one pair
 
-pub placed-none : (w : List ℕ) (at k r : ℕ) (ps : List Pair) → r ≡ k → ps ≡ [] → Placed w w at k r ps
-placed-none w at k r ps e f =
-    record {
-      count = rw (e, f) (omega arith);
-      size = refl;
-      kept = refl;
-      rows = rw (e, f) (sym (append-nil (take k (rows_at at w))));
-    }
+pub placed-none : (w : List ℕ) (k r : ℕ) (ps : List Pair) → r ≡ k → ps ≡ [] → Placed w w k r ps
+placed-none w k r ps e f =
+    record { count = rw (e, f) (omega arith); size = refl; front = rw (e, f) (sym (append-nil (take k (rows w)))) }
 
-pub placed-then : (w w₁ w₂ : List ℕ) (at k m r : ℕ) (ps qs : List Pair) → Placed w w₁ at k m ps → Placed w₁ w₂ at m r qs → Placed w w₂ at k r (ps ++ qs)
-placed-then w w₁ w₂ at k m r ps qs p q =
+pub placed-then : (w w₁ w₂ : List ℕ) (k m r : ℕ) (ps qs : List Pair) → Placed w w₁ k m ps → Placed w₁ w₂ m r qs → Placed w w₂ k r (ps ++ qs)
+placed-then w w₁ w₂ k m r ps qs p q =
     record {
       count = rw (length-append ps qs) (omega (arith, p.count, q.count));
       size = q.size ∙ p.size;
-      kept = q.kept ∙ p.kept;
-      rows =
-          q.rows ∙ ap (λ (l : List Row). l ++ map row_of qs) p.rows ∙ append_assoc (take k (rows_at at w)) (map row_of ps) (map row_of qs)
-          ∙ ap (λ (l : List Row). take k (rows_at at w) ++ l) (sym (map-append row_of ps qs));
+      front =
+          q.front ∙ ap (λ (l : List Row). l ++ map row_of qs) p.front ∙ append_assoc (take k (rows w)) (map row_of ps) (map row_of qs)
+          ∙ ap (λ (l : List Row). take k (rows w) ++ l) (sym (map-append row_of ps qs));
     }
 
--- the part that was lent is all from `at` on
-placed_one : (w ys : List ℕ) (at k x y : ℕ) → at + 3 * (k + 1) ≤ length w → length ys ≡ length (part w at (length w - at))
-    → rows ys ≡ set (rows (part w at (length w - at))) k (x, y, 0) → Placed w (put w at (length w - at) ys) at k (k + 1) ((x, y) ∷ [])
-placed_one w ys at k x y h len e =
-    let n : ℕ = length w - at in
-    let o : Loan w at n ys (put w at n ys) = loan w at (length w) n ys (omega arith) (omega arith) len in
-    let all : part w at n ≡ drop at w = take_all n (drop at w) (omega (arith, length-drop at w)) in
-    let back : drop at (put w at n ys) ≡ ys = sym (take_all n (drop at (put w at n ys)) (omega (arith, length-drop at (put w at n ys), o.len))) ∙ o.here in
-    let room : suc k ≤ length (rows_at at w) = le-rows (drop at w) (suc k) (omega (arith, length-drop at w)) in
-    let is : rows_at at (put w at n ys) ≡ set (rows_at at w) k (x, y, 0) = ap rows back ∙ e ∙ ap (λ (l : List ℕ). set (rows l) k (x, y, 0)) all in
-    record {
-      count = refl;
-      size = o.len;
-      kept = o.front at (omega arith);
-      rows = rw (add-one k, is) (take-suc-set (rows_at at w) k (x, y, 0) room);
-    }
-
-pub placed_pair : (w ys : List ℕ) (at k : ℕ) (p : Pair) → at + 3 * (k + 1) ≤ length w → length ys ≡ length (part w at (length w - at))
-    → rows ys ≡ set (rows (part w at (length w - at))) k (p.0, p.1, 0) → Placed w (put w at (length w - at) ys) at k (k + 1) (p ∷ [])
-placed_pair w ys at k p h len e = placed_one w ys at k p.0 p.1 h len e
+pub placed_pair : (w w' : List ℕ) (k : ℕ) (p : Pair) → 3 * (k + 1) ≤ length w → length w' ≡ length w
+    → rows w' ≡ set (rows w) k (p.0, p.1, 0) → Placed w w' k (k + 1) (p ∷ [])
+placed_pair w w' k p h len e =
+    let room : suc k ≤ length (rows w) = le-rows w (suc k) (omega arith) in
+    record { count = refl; size = len; front = rw (add-one k, e) (take-suc-set (rows w) k (p.0, p.1, 0) room) }
 
 -- ---- one parent
 
@@ -88,12 +64,12 @@ module _ (u : List ℕ) (parent : ℕ) (b : Bool) (said : b ≡ has parent u) wh
   unfolding known keep
   is_known told = rw (sym said ∙ told) refl
 
-  module _ (w : List ℕ) (at k child : ℕ) (kind : PairKind) where
-    pub parent_skip : b ≡ false → Placed w w at k k (map (pair_of kind child) (known (parent ∷ []) u))
-    parent_skip told = placed-none w at k k _ refl (ap (map (pair_of kind child)) (unknown told))
+  module _ (w : List ℕ) (k child : ℕ) (kind : PairKind) where
+    pub parent_skip : b ≡ false → Placed w w k k (map (pair_of kind child) (known (parent ∷ []) u))
+    parent_skip told = placed-none w k k _ refl (ap (map (pair_of kind child)) (unknown told))
 
-    pub parent_put : b ≡ true → (w' : List ℕ) (x : Pair) → x ≡ pair_of kind child parent → Placed w w' at k (k + 1) (x ∷ [])
-        → Placed w w' at k (k + 1) (map (pair_of kind child) (known (parent ∷ []) u))
+    pub parent_put : b ≡ true → (w' : List ℕ) (x : Pair) → x ≡ pair_of kind child parent → Placed w w' k (k + 1) (x ∷ [])
+        → Placed w w' k (k + 1) (map (pair_of kind child) (known (parent ∷ []) u))
     parent_put told w' x is p = rw (is_known told) (rw is at p)
 
 -- ---- the parents of a child
@@ -101,33 +77,25 @@ module _ (u : List ℕ) (parent : ℕ) (b : Bool) (said : b ≡ has parent u) wh
 known_more : (u l : List ℕ) (j : ℕ) → j < length l → known (take (j + 1) l) u ≡ known (take j l) u ++ known (get_or l j 0 ∷ []) u
 known_more u l j h = rw (add-one j, take-suc l j 0 h) (known-append u (take j l) (get_or l j 0 ∷ []))
 
-pub parents-start : (u w : List ℕ) (from count at k child : ℕ) (kind : PairKind) → Placed w w at k k (map (pair_of kind child) (known (take 0 (part w from count)) u))
+pub parents-start : (u w parents : List ℕ) (k child : ℕ) (kind : PairKind) → Placed w w k k (map (pair_of kind child) (known (take 0 parents) u))
 unfolding known keep
-parents-start u w from count at k child kind = placed-none w at k k _ refl refl
+parents-start u w parents k child kind = placed-none w k k _ refl refl
 
-module _ (u w₀ w : List ℕ) (from count at k r j child : ℕ) (kind : PairKind) (room : from + count ≤ at) (fits : at + 3 * (k + count) ≤ length w₀)
-    (p : Placed w₀ w at k r (map (pair_of kind child) (known (take j (part w₀ from count)) u))) where
-  module _ (below : j < count) where
-    pub parents-room : at + 3 * (r + 1) ≤ length w
+module _ (u parents w₀ w : List ℕ) (k r j child : ℕ) (kind : PairKind) (fits : 3 * (k + length parents) ≤ length w₀)
+    (p : Placed w₀ w k r (map (pair_of kind child) (known (take j parents) u))) where
+  module _ (below : j < length parents) where
+    pub parents-room : 3 * (r + 1) ≤ length w
     parents-room =
-        let l : List ℕ = take j (part w₀ from count) in
-        let few : length l ≤ j = omega (arith, length-take-le j (part w₀ from count) (omega (arith, part_length w₀ from count (omega arith)))) in
+        let l : List ℕ = take j parents in
+        let few : length l ≤ j = omega (arith, length-take-le j parents (omega arith)) in
         omega (arith, p.count, p.size, known-few u l, length-map (known l u) (pair_of kind child))
 
-    pub parents-next : (w' : List ℕ) (s : ℕ) → Placed w w' at r s (map (pair_of kind child) (known (get_or w (from + j) 0 ∷ []) u))
-        → Placed w₀ w' at k s (map (pair_of kind child) (known (take (j + 1) (part w₀ from count)) u))
+    pub parents-next : (w' : List ℕ) (s : ℕ) → Placed w w' r s (map (pair_of kind child) (known (get_or parents j 0 ∷ []) u))
+        → Placed w₀ w' k s (map (pair_of kind child) (known (take (j + 1) parents) u))
     parents-next w' s q =
-        let l : List ℕ = part w₀ from count in
-        let n : j < length l = rw (part_length w₀ from count (omega arith)) below in
-        let x : get_or w (from + j) 0 ≡ get_or l j 0 = word_kept w w₀ at p.kept (from + j) (omega arith) ∙ sym (part_at w₀ from count j below) in
-        let more : known (take (j + 1) l) u ≡ known (take j l) u ++ known (get_or w (from + j) 0 ∷ []) u = rw x (known_more u l j n) in
-        let all : map (pair_of kind child) (known (take (j + 1) l) u) ≡ map (pair_of kind child) (known (take j l) u) ++ map (pair_of kind child) (known (get_or w (from + j) 0 ∷ []) u) =
-        ap (map (pair_of kind child)) more ∙ map-append (pair_of kind child) (known (take j l) u) (known (get_or w (from + j) 0 ∷ []) u) in
-        rw all (placed-then w₀ w w' at k r s _ _ p q)
-
-  pub parents-end : count ≤ j → Placed w₀ w at k r (map (pair_of kind child) (known (part w₀ from count) u))
-  parents-end h =
-      let e : take j (part w₀ from count) ≡ part w₀ from count = take_all j (part w₀ from count) (rw (part_length w₀ from count (omega arith)) h) in rw e at p
+        let all : map (pair_of kind child) (known (take (j + 1) parents) u) ≡ map (pair_of kind child) (known (take j parents) u) ++ map (pair_of kind child) (known (get_or parents j 0 ∷ []) u) =
+        ap (map (pair_of kind child)) (known_more u parents j below) ∙ map-append (pair_of kind child) (known (take j parents) u) (known (get_or parents j 0 ∷ []) u) in
+        rw all (placed-then w₀ w w' k r s _ _ p q)
 
 -- ---- how many were held
 
@@ -166,20 +134,20 @@ kind-none Merge child [] e = refl
 kind-none Merge child (x ∷ []) e = refl
 kind-none Merge child (x ∷ y ∷ l) e = absurd (omega (arith, ltb-false 1 (length (x ∷ y ∷ l)) e))
 
-module _ (u w : List ℕ) (from count at k child : ℕ) (kind : PairKind) (b : Bool) (said : b ≡ has child u) where
-  pub child_held : b ≡ true → Placed w w at k k (row_pairs kind u child (part w from count))
+module _ (u w parents : List ℕ) (k child : ℕ) (kind : PairKind) (b : Bool) (said : b ≡ has child u) where
+  pub child_held : b ≡ true → Placed w w k k (row_pairs kind u child parents)
   unfolding row_pairs
-  child_held told = placed-none w at k k _ refl (rw (sym said ∙ told) refl)
+  child_held told = placed-none w k k _ refl (rw (sym said ∙ told) refl)
 
-  module _ (held : ℕ) (c : Bool) (counted : held ≡ length (known (part w from (from + count - from)) u)) (asked : c ≡ wanted kind held) where
-    is-wanted : wanted kind (length (known (part w from count) u)) ≡ c
-    is-wanted = sym (asked ∙ ap (wanted kind) (counted ∙ ap (λ (l : List ℕ). length (known l u)) (part-as w from (from + count) count refl)))
+  module _ (held : ℕ) (c : Bool) (counted : held ≡ length (known parents u)) (asked : c ≡ wanted kind held) where
+    is-wanted : wanted kind (length (known parents u)) ≡ c
+    is-wanted = sym (asked ∙ ap (wanted kind) counted)
 
-    pub child_unwanted : b ≡ false → c ≡ false → Placed w w at k k (row_pairs kind u child (part w from count))
+    pub child_unwanted : b ≡ false → c ≡ false → Placed w w k k (row_pairs kind u child parents)
     unfolding row_pairs
-    child_unwanted told n = placed-none w at k k _ refl (rw (sym said ∙ told) (kind-none kind child (known (part w from count) u) (is-wanted ∙ n)))
+    child_unwanted told n = placed-none w k k _ refl (rw (sym said ∙ told) (kind-none kind child (known parents u) (is-wanted ∙ n)))
 
-    pub child_wanted : b ≡ false → c ≡ true → (w' : List ℕ) (r : ℕ) → Placed w w' at k r (map (pair_of kind child) (known (part w from count) u))
-        → Placed w w' at k r (row_pairs kind u child (part w from count))
+    pub child_wanted : b ≡ false → c ≡ true → (w' : List ℕ) (r : ℕ) → Placed w w' k r (map (pair_of kind child) (known parents u))
+        → Placed w w' k r (row_pairs kind u child parents)
     unfolding row_pairs
-    child_wanted told y w' r p = rw (sym said ∙ told, kind-all kind child (known (part w from count) u) (is-wanted ∙ y)) p
+    child_wanted told y w' r p = rw (sym said ∙ told, kind-all kind child (known parents u) (is-wanted ∙ y)) p

@@ -1,9 +1,9 @@
 -- Pairs sorted as rows of three words are pairs sorted as pairs, and two words of each row are the words of the pairs.
 --     sorted-through     two orders that agree through a map sort alike
 --     copied-start, copied_next, copied-end     the loop that writes the pairs out
---     written_count, written_is, written-kept     placed, sorted, written out
+--     written_count, written_is     placed, sorted, written out
 -- Assumes nothing.
-use Prim.Native.Nat.{ℕ, ◌+◌, ◌-◌, ◌*◌, ◌≤◌, ◌<◌}
+use Prim.Native.Nat.{ℕ, ◌+◌, ◌*◌, ◌≤◌, ◌<◌}
 use native.Mathlib.Numerals.{add-one}
 use native.Mathlib.Omega.{arith}
 use mathlib.Core.Path.{◌≡◌, refl, sym, ap, ◌∙◌}
@@ -11,13 +11,12 @@ use mathlib.Core.Bool.{Bool, true, false, cond}
 use mathlib.Core.List.{List, [], ◌∷◌, ◌++◌, map, append_assoc}
 use borrow.Author.Tests.{ltb-true, ltb-false, le-leb, lt-leb}
 use lib.Dec.{ltb, leb}
-use lib.ListN.{length, get_or, take, drop, set, length-append, length-drop, length-set}
-use lib.Seq.{take-suc, take_all}
+use lib.ListN.{length, get_or, take, drop, set, length-append, length-set}
+use lib.Seq.{take-suc, take_all, take_at, length-take-le}
 use Rattle.lists.specs.Lists.{front}
 use Rattle.lists.specs.Sort.{Row, insert, sorted, le3}
 use Rattle.lists.proofs.Sums.{sum-sorted}
-use Rattle.words.specs.Part.{part, put}
-use Rattle.words.proofs.PartLaws.{Loan, loan, grow, part-as}
+use Rattle.words.proofs.PartLaws.{grow}
 use Rattle.sorts.specs.Rows.{rows}
 use Rattle.sorts.specs.Heap.{row0}
 use Rattle.sorts.proofs.RowLaws.{rows_at, rows-length, rows_take}
@@ -110,24 +109,17 @@ module _ (out₀ out pairs : List ℕ) (k i : ℕ) (len : length pairs ≡ 3 * k
 
 -- ---- placed, sorted, written out
 
-module _ (w₀ w : List ℕ) (e at k : ℕ) (ps : List Pair) (p : Placed w₀ w at 0 k ps) (few : k ≤ e) (fits : at + 3 * e ≤ length w₀) where
+module _ (w₀ w : List ℕ) (e k : ℕ) (ps : List Pair) (p : Placed w₀ w 0 k ps) (few : k ≤ e) (fits : 3 * e ≤ length w₀) where
   pub written_count : k ≡ length (sorted pair_le ps)
   written_count = omega (arith, p.count, sum-sorted pair_le length (λ (s : Pair). 1) (λ s l. omega arith) ps)
 
-  lent : rows (part w at (at + 3 * k - at)) ≡ map row_of ps
-  lent =
-      rw (part-as w at (at + 3 * k) (3 * k) refl) (rows_take k (drop at w) (omega (arith, length-drop at w, p.size)) ∙ p.rows)
+  lent : rows (take (3 * k) w) ≡ map row_of ps
+  lent = rows_take k w (omega (arith, p.size)) ∙ p.front
 
-  module _ (ys : List ℕ) (len : length ys ≡ length (part w at (at + 3 * k - at))) where
-    back : Loan w at (3 * k) ys (put w at (at + 3 * k - at) ys)
-    back = loan w at (at + 3 * k) (3 * k) ys (omega arith) (omega (arith, p.size)) len
-
-    pub written-kept : take at (put w at (at + 3 * k - at) ys) ≡ take at w₀
-    written-kept = back.front at (omega arith) ∙ p.kept
-
-    pub written_is : rows ys ≡ sorted le3 (rows (part w at (at + 3 * k - at))) → (out₀ out : List ℕ)
-        → out ≡ front (two_words (rows (part (put w at (at + 3 * k - at) ys) at (at + 3 * k - at)))) out₀ → out ≡ front (pair_words (sorted pair_le ps)) out₀
-    written_is said out₀ out e =
-        let here : part (put w at (at + 3 * k - at) ys) at (at + 3 * k - at) ≡ ys = part-as (put w at (at + 3 * k - at) ys) at (at + 3 * k) (3 * k) refl ∙ back.here in
-        let is : rows ys ≡ map row_of (sorted pair_le ps) = said ∙ ap (sorted le3) lent ∙ sorted-through row_of pair_le le3 pairs-agree ps in
-        e ∙ ap (λ (l : List ℕ). front l out₀) (ap (λ (l : List ℕ). two_words (rows l)) here ∙ ap two_words is ∙ two-pairs (sorted pair_le ps))
+  pub written_is : (ys out₀ out : List ℕ) → length ys ≡ length (take (3 * k) w) → rows ys ≡ sorted le3 (rows (take (3 * k) w))
+      → out ≡ front (two_words (rows (take (3 * k) (ys ++ drop (3 * k) w)))) out₀ → out ≡ front (pair_words (sorted pair_le ps)) out₀
+  written_is ys out₀ out len said e =
+      let long : length ys ≡ 3 * k = len ∙ length-take-le (3 * k) w (omega (arith, p.size)) in
+      let is : rows ys ≡ map row_of (sorted pair_le ps) = said ∙ ap (sorted le3) lent ∙ sorted-through row_of pair_le le3 pairs-agree ps in
+      e ∙ ap (λ (l : List ℕ). front (two_words (rows l)) out₀) (take_at ys (drop (3 * k) w) (3 * k) long)
+      ∙ ap (λ (l : List ℕ). front l out₀) (ap two_words is ∙ two-pairs (sorted pair_le ps))

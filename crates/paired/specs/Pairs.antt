@@ -1,7 +1,7 @@
 -- Split pairs and merge pairs by one definition for both kinds. And how pairs stand in the work area, three words to a row, so
 -- that they can be sorted there.
 -- Assumes nothing.
-use Rattle.std.specs.Prelude.{ℕ, ◌+◌, ◌≡◌, Bool, cond, List, [], ◌∷◌, ◌++◌, map, eqb, ltb, length, take, drop}
+use Rattle.std.specs.Prelude.{ℕ, ◌+◌, ◌≡◌, Bool, cond, List, [], ◌∷◌, ◌++◌, map, eqb, ltb, length, take}
 use Rattle.lists.specs.Lists.{has, front}
 use Rattle.lists.specs.Sort.{Row, sorted}
 use Rattle.sorts.specs.Rows.{rows}
@@ -62,16 +62,11 @@ paired_from before ss c =
 abbrev pub row_of : Pair → Row
 row_of p = (p.0, p.1, 0)
 
--- the rows from word `at` on
-abbrev pub rows_at : ℕ → List ℕ → List Row
-rows_at at w = rows (drop at w)
-
--- w' is w with the pairs ps placed behind the k rows that stand from word `at` on: r rows then. The words before `at` stay
-pub record Placed (w w' : List ℕ) (at k r : ℕ) (ps : List Pair) : Type 0 where
+-- w' is w with the pairs ps placed behind the k rows at its front: r rows then
+pub record Placed (w w' : List ℕ) (k r : ℕ) (ps : List Pair) : Type 0 where
   pub count : r ≡ k + length ps
   pub size : length w' ≡ length w
-  pub kept : take at w' ≡ take at w
-  pub rows : take r (rows_at at w') ≡ take k (rows_at at w) ++ map row_of ps
+  pub front : take r (rows w') ≡ take k (rows w) ++ map row_of ps
 
 -- the first two words of each row
 unfoldable pub two_words : List Row → List ℕ

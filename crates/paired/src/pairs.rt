@@ -1,14 +1,18 @@
-// Split pairs and merge pairs: placed in the work area as rows of three words, sorted there, and written out two words to a pair. The two
-// kinds differ in how many parents held before they ask for, and in which of parent and child comes first.
-ghost use Rattle.std.specs.Prelude.{◌≡◌, true, false, [], ◌∷◌, map, ◌+◌, ◌*◌, ◌<◌, ◌≤◌, length, take};
+// Split pairs and merge pairs: placed in the scratch as rows of three words, sorted there, and written out two words
+// to a pair. The two kinds differ in how many parents held before they ask for, and in which of parent and child
+// comes first.
+ghost use Rattle.std.specs.Prelude.{◌≡◌, true, false, [], ◌∷◌, map, ◌+◌, ◌*◌, ◌≤◌, length};
 ghost use Rattle.lists.specs.Lists.{front};
-ghost use Rattle.words.specs.Part.{part};
 ghost use Rattle.sorts.specs.Rows.{rows};
 ghost use Rattle.rules.specs.Delta.{pair_words};
-ghost use Rattle.rules.specs.Tables.{held_width};
-ghost use Rattle.tabled.specs.Image.{Image, image_segments};
-ghost use Rattle.paired.specs.Tables.{Rows, ids_in, known};
+ghost use Rattle.held.specs.Front.{segments_of};
+ghost use Rattle.paired.specs.Tables.{known};
+ghost use Rattle.paired.specs.Held.{ids_held};
 ghost use Rattle.paired.specs.Pairs.{pair_of, wanted, row_pairs, pairs_of, ascending_pairs, Placed, two_words};
+
+use crate::rows::HeldRows;
+use held::Held;
+use types::records::RowIndex;
 
 // Split pairs and merge pairs.
 #[derive(Clone, Copy, PartialEq, Eq, Debug)]
@@ -39,137 +43,101 @@ impl PairKind {
     }
 }
 
-// The pair as row k from word `at` on.
-fn place_pair(w: &mut [u64], at: usize, k: usize, pair: (u64, u64))
-    requires { at + 3 * (k + 1) ≤ length w.old }
-    ensures { Placed w.old w.new at k (k + 1) (pair ∷ []) }
+// The pair as row k.
+#[tactic(auto, using(crate::proofs::Placing::placed_pair))]
+fn place_pair(scratch: &mut [u64], k: usize, pair: (u64, u64))
+    requires { 3 * (k + 1) ≤ length scratch.old }
+    ensures { Placed scratch.old scratch.new k (k + 1) (pair ∷ []) }
 {
     let (first, second) = pair;
-    let end = w.len();
-    sorts::put3(&mut w[at..end], k, first, second, 0);
+    sorts::put3(scratch, k, first, second, 0);
 }
 
-// The pair of a child and one of its parents as row k, if that parent was held before; how many rows there are then.
-fn place_parent(
-    w: &mut [u64],
-    at: usize,
-    k: usize,
+// A new row whose pairs of one kind are made, and the rows that were held before.
+#[derive(Clone, Copy)]
+struct Child<'a> {
     kind: PairKind,
-    child: u64,
-    parent: u64,
-    old: &[u64],
-    h: usize,
-) -> usize
-    requires room { at + 3 * (k + 1) ≤ length w.old }
-    requires old_rows { Rows old.now h }
-    ensures { Placed w.old w.new at k result
-        (map (pair_of kind child) (known (parent ∷ []) (ids_in old.now h))) }
-{
-    if crate::ids::is_held(old, h, parent) {
-        place_pair(w, at, k, kind.pair_of(child, parent));
-        return k + 1;
-    }
-    k
+    id: u64,
+    old: HeldRows<'a>,
 }
 
-// The pairs of a child and its `count` parents, which stand from word `from` on, behind k rows.
-fn place_parents(
-    w: &mut [u64],
-    from: usize,
-    count: usize,
-    at: usize,
-    k: usize,
-    kind: PairKind,
-    child: u64,
-    old: &[u64],
-    h: usize,
-) -> usize
-    requires parents_before { from + count ≤ at }
-    requires room { at + 3 * (k + count) ≤ length w.old }
-    requires old_rows { Rows old.now h }
-    ensures { Placed w.old w.new at k result
-        (map (pair_of kind child) (known (part w.old from count) (ids_in old.now h))) }
-{
-    let mut r = k;
-    // by index: the parents stand in the area that is written to, so no slice of them can be lent beside it
-    for j in 0..count {
-        let parent = w[from + j];
-        r = place_parent(w, at, r, kind, child, parent, old, h);
-    }
-    r
-}
-
-// How many of the listed ids were held before.
-fn count_held(list: &[u64], old: &[u64], h: usize) -> usize
-    requires { Rows old.now h }
-    ensures { result ≡ length (known list.now (ids_in old.now h)) }
-{
-    let mut held = 0;
-    for &id in list {
-        if crate::ids::is_held(old, h, id) {
-            held += 1;
+impl<'a> Child<'a> {
+    // The pair with one parent as row k, if it was held before; how many rows there are then.
+    fn place_parent(&self, scratch: &mut [u64], k: usize, parent: u64) -> usize
+        requires { 3 * (k + 1) ≤ length scratch.old }
+        ensures { Placed scratch.old scratch.new k result
+            (map (pair_of self.now.kind self.now.id)
+            (known (parent ∷ []) (ids_held self.now.old))) }
+    {
+        if self.old.contains(parent) {
+            place_pair(scratch, k, self.kind.pair_of(self.id, parent));
+            return k + 1;
         }
+        k
     }
-    held
+
+    // The pairs with these parents, behind k rows.
+    fn place_parents(&self, scratch: &mut [u64], k: usize, parents: &[u64]) -> usize
+        requires { 3 * (k + length parents.now) ≤ length scratch.old }
+        ensures { Placed scratch.old scratch.new k result
+            (map (pair_of self.now.kind self.now.id) (known parents.now (ids_held self.now.old))) }
+    {
+        let mut r = k;
+        for &parent in parents {
+            r = self.place_parent(scratch, r, parent);
+        }
+        r
+    }
+
+    // How many of the listed ids were held before.
+    fn count_held(&self, list: &[u64]) -> usize
+        ensures { result ≡ length (known list.now (ids_held self.now.old)) }
+    {
+        let mut held = 0;
+        for &id in list {
+            if self.old.contains(id) {
+                held += 1;
+            }
+        }
+        held
+    }
+
+    // The pairs of the row, behind k rows: none if it was held before.
+    fn place(&self, scratch: &mut [u64], k: usize, parents: &[u64]) -> usize
+        requires { 3 * (k + length parents.now) ≤ length scratch.old }
+        ensures { Placed scratch.old scratch.new k result
+            (row_pairs self.now.kind (ids_held self.now.old) self.now.id parents.now) }
+    {
+        if self.old.contains(self.id) {
+            return k;
+        }
+        if self.kind.is_wanted(self.count_held(parents)) {
+            return self.place_parents(scratch, k, parents);
+        }
+        k
+    }
 }
 
-// The pairs of one row, behind k rows: none if it was held before.
-fn place_child(
-    w: &mut [u64],
-    from: usize,
-    count: usize,
-    at: usize,
-    k: usize,
-    kind: PairKind,
-    child: u64,
-    old: &[u64],
-    h: usize,
-) -> usize
-    requires parents_before { from + count ≤ at }
-    requires room { at + 3 * (k + count) ≤ length w.old }
-    requires old_rows { Rows old.now h }
-    ensures { Placed w.old w.new at k result
-        (row_pairs kind (ids_in old.now h) child (part w.old from count)) }
+// The pairs of all rows of the image, in the order of the rows; how many they are.
+fn place_pairs(kind: PairKind, image: &Held, old: &HeldRows, scratch: &mut [u64]) -> usize
+    requires { 3 * length image.now.edges.now ≤ length scratch.old }
+    ensures placed { Placed scratch.old scratch.new 0 result
+        (pairs_of kind (ids_held old.now) (segments_of image.now)) }
+    ensures at_most_edges { result ≤ length image.now.edges.now }
 {
-    if crate::ids::is_held(old, h, child) {
-        return k;
-    }
-    let end = from + count;
-    let held = count_held(&w[from..end], old, h);
-    if kind.is_wanted(held) {
-        return place_parents(w, from, count, at, k, kind, child, old, h);
-    }
-    k
-}
-
-// The pairs of all n rows of the image, from word `at` on, in the order of the rows; how many they are.
-fn place_pairs(
-    w: &mut [u64],
-    n: usize,
-    e: usize,
-    at: usize,
-    kind: PairKind,
-    old: &[u64],
-    h: usize,
-) -> usize
-    requires image { Image w.old n e }
-    requires image_before { n * held_width + e ≤ at }
-    requires work { at + 3 * e ≤ length w.old }
-    requires old_rows { Rows old.now h }
-    ensures placed { Placed w.old w.new at 0 result
-        (pairs_of kind (ids_in old.now h) (image_segments w.old n e)) }
-    ensures at_most_edges { result ≤ e }
-{
-    let mut from = n * rules::HELD;
+    let mut from = 0;
     let mut k = 0;
-    // by index: the rows stand in the area that is written to
-    for i in 0..n {
-        let row = i * rules::HELD;
-        let child = w[row];
-        let count = w[row + rules::PARENTS] as usize;
-        let children = w[row + rules::CHILDREN] as usize;
-        k = place_child(w, from, count, at, k, kind, child, old, h);
-        from += count + children;
+    // by index: what is lent of the image are words, and a row is read from them by its number
+    for i in 0..image.count {
+        let row = RowIndex(i);
+        let child = Child {
+            kind,
+            id: image.id(row).0,
+            old: *old,
+        };
+        let end = from + image.parent_count(row);
+        k = child.place(scratch, k, &image.edges[from..end]);
+        from = image.next_start(row, from);
     }
     k
 }
@@ -189,30 +157,25 @@ fn copy_pairs(out: &mut [u64], pairs: &[u64], k: usize)
     }
 }
 
-// The pairs of one kind, ascending, at the front of out; how many they are. The words before `at` stay.
+// The pairs of one kind, ascending, at the front of out; how many they are.
 pub fn write_pairs(
     kind: PairKind,
-    w: &mut [u64],
-    n: usize,
-    e: usize,
-    at: usize,
-    old: &[u64],
-    h: usize,
+    image: &Held,
+    old: &HeldRows,
+    scratch: &mut [u64],
     out: &mut [u64],
 ) -> usize
-    requires image { Image w.old n e }
-    requires image_before { n * held_width + e ≤ at }
-    requires work { at + 3 * e ≤ length w.old }
-    requires old_rows { Rows old.now h }
-    requires out_fits { 2 * e ≤ length out.old }
-    ensures count { result ≡ length (ascending_pairs kind (ids_in old.now h) (image_segments w.old n e)) }
+    requires work { 3 * length image.now.edges.now ≤ length scratch.old }
+    requires out_fits { 2 * length image.now.edges.now ≤ length out.old }
+    ensures count { result ≡
+        length (ascending_pairs kind (ids_held old.now) (segments_of image.now)) }
     ensures written { out.new ≡
-        front (pair_words (ascending_pairs kind (ids_in old.now h) (image_segments w.old n e))) out.old }
-    ensures image_stays { take at w.new ≡ take at w.old }
+        front (pair_words (ascending_pairs kind (ids_held old.now) (segments_of image.now)))
+        out.old }
 {
-    let k = place_pairs(w, n, e, at, kind, old, h);
-    let end = at + 3 * k;
-    sorts::sort3(&mut w[at..end], k);
-    copy_pairs(out, &w[at..end], k);
+    let k = place_pairs(kind, image, old, scratch);
+    let end = 3 * k;
+    sorts::sort3(&mut scratch[..end], k);
+    copy_pairs(out, &scratch[..end], k);
     k
 }

@@ -14,58 +14,73 @@ ghost use Rattle.replacing.specs.Stored.{Room, Storable, Stored, Finished, pairs
 ghost use Rattle.replacing.specs.Lent.{Replaced};
 
 use answers::{DagDelta, Refusal, Updated};
+use held::Held;
+use paired::rows::HeldRows;
 use types::lent::{Areas, Changes, Layout};
 use types::limits::DagLimits;
 
-// How many rows and how many edge words are held.
+// How many rows and how many edge words.
 #[derive(Clone, Copy, PartialEq, Eq, Debug)]
-pub struct Held {
+pub struct Counts {
     pub rows: usize,
     pub edges: usize,
 }
 
-// The delta against the h rows that are held, before the new ones are stored over them. Its pairs stand behind the order list, which stays.
+// The delta against the h rows that are held, before the new ones are stored over them. The image is lent to be read;
+// its pairs are made behind it and the order list.
 fn write_delta(
     w: &mut [u64],
-    n: usize,
-    e: usize,
+    laid: Counts,
     epoch: u64,
     h: usize,
     areas: &Areas,
     changes: &mut Changes,
 ) -> DagDelta
-    requires storable { Storable w.old n e }
-    requires room { Room n e h (areas_in areas.now) (changes_in changes.old) }
+    requires storable { Storable w.old laid.rows laid.edges }
+    requires room { Room laid.rows laid.edges h (areas_in areas.now) (changes_in changes.old) }
     ensures value { result ≡
-        delta_from epoch (held_before h (areas_in areas.now)) (image_segments w.old n e) }
+        delta_from epoch (held_before h (areas_in areas.now))
+        (image_segments w.old laid.rows laid.edges) }
     ensures same_lists { SameChanges changes.old changes.new }
-    ensures written { changes_in changes.new ≡
-        changed_from (held_before h (areas_in areas.now)) (image_segments w.old n e) (changes_in changes.old) }
-    ensures layout_stays { take (pairs_at n e) w.new ≡ take (pairs_at n e) w.old }
+    ensures written { changes_in changes.new ≡ changed_from (held_before h (areas_in areas.now))
+        (image_segments w.old laid.rows laid.edges) (changes_in changes.old) }
+    ensures layout_stays { take (pairs_at laid.rows laid.edges) w.new
+        ≡ take (pairs_at laid.rows laid.edges) w.old }
 {
-    let at = n * rules::HELD + e + 5 * n;
-    delta::write_delta(w, n, e, at, epoch, areas.held, h, changes)
+    let row_words = laid.rows * rules::HELD;
+    let (layout, scratch) = w.split_at_mut(row_words + laid.edges + 5 * laid.rows);
+    let (rows, behind) = layout.split_at(row_words);
+    let image = Held {
+        rows,
+        edges: &behind[..laid.edges],
+        count: laid.rows,
+    };
+    let old = HeldRows {
+        rows: areas.held,
+        count: h,
+    };
+    delta::write_delta(epoch, &image, &old, scratch, changes)
 }
 
-// The delta is told, and then the n rows with e edge words at the front of w are stored. The work area is cleared.
+// The delta is told, and then the layout at the front of w is stored. The work area is cleared.
 fn accept(
     w: &mut [u64],
-    n: usize,
-    e: usize,
+    laid: Counts,
     epoch: u64,
     h: usize,
     areas: &mut Areas,
     changes: &mut Changes,
 ) -> DagDelta
-    requires storable { Storable w.old n e }
-    requires room { Room n e h (areas_in areas.old) (changes_in changes.old) }
+    requires storable { Storable w.old laid.rows laid.edges }
+    requires room { Room laid.rows laid.edges h (areas_in areas.old) (changes_in changes.old) }
     ensures same { SameAreas areas.old areas.new }
     ensures same_lists { SameChanges changes.old changes.new }
-    ensures stored { Stored w.old n e epoch h (areas_in areas.old) (changes_in changes.old)
-        result w.new (areas_in areas.new) (changes_in changes.new) }
+    ensures stored { Stored w.old laid.rows laid.edges epoch h
+        (areas_in areas.old) (changes_in changes.old) result
+        w.new (areas_in areas.new) (changes_in changes.new) }
 {
-    let d = write_delta(w, n, e, epoch, h, areas, changes);
-    layout::store(w, n, e, areas);
+    let d = write_delta(w, laid, epoch, h, areas, changes);
+    layout::store(w, laid.rows, laid.edges, areas);
     words::clear(w);
     d
 }
@@ -74,22 +89,22 @@ fn accept(
 fn finish(
     judged: Result<(), Refusal>,
     w: &mut [u64],
-    n: usize,
-    e: usize,
+    laid: Counts,
     epoch: u64,
     h: usize,
     areas: &mut Areas,
     changes: &mut Changes,
 ) -> Result<Updated, Refusal>
-    requires storable { judged ≡ Accepted → Storable w.old n e }
-    requires room { Room n e h (areas_in areas.old) (changes_in changes.old) }
+    requires storable { judged ≡ Accepted → Storable w.old laid.rows laid.edges }
+    requires room { Room laid.rows laid.edges h (areas_in areas.old) (changes_in changes.old) }
     ensures same { SameAreas areas.old areas.new }
     ensures same_lists { SameChanges changes.old changes.new }
-    ensures finished { Finished judged w.old n e epoch h (areas_in areas.old) (changes_in changes.old)
-        result w.new (areas_in areas.new) (changes_in changes.new) }
+    ensures finished { Finished judged w.old laid.rows laid.edges epoch h
+        (areas_in areas.old) (changes_in changes.old) result
+        w.new (areas_in areas.new) (changes_in changes.new) }
 {
     match judged {
-        Ok(()) => Ok(Updated::Accepted(accept(w, n, e, epoch, h, areas, changes))),
+        Ok(()) => Ok(Updated::Accepted(accept(w, laid, epoch, h, areas, changes))),
         Err(r) => {
             words::clear(w);
             Err(r)
@@ -98,8 +113,9 @@ fn finish(
 }
 
 // 1, of the tables that are held.
-fn is_bad_held(areas: &Areas, held: Held) -> bool
-    ensures { result ≡ bad_held (areas_in areas.now).held (areas_in areas.now).links held.rows held.edges }
+fn is_bad_held(areas: &Areas, held: Counts) -> bool
+    ensures { result ≡
+        bad_held (areas_in areas.now).held (areas_in areas.now).links held.rows held.edges }
 {
     shape::tables::is_bad_held(areas.held, areas.links, held.rows, held.edges)
 }
@@ -110,7 +126,7 @@ pub fn replace(
     epoch: u64,
     size: u64,
     limits: DagLimits,
-    held: Held,
+    held: Counts,
     layout: &Layout,
     work: &mut [u64],
     areas: &mut Areas,
@@ -132,7 +148,9 @@ pub fn replace(
         return Err(Refusal::NoRoom);
     }
     let judged = layout::judge_in(work, epoch, size, limits, layout);
-    let n = layout.rows.len() / rules::ROW;
-    let e = layout.edges.len();
-    finish(judged, work, n, e, epoch, held.rows, areas, changes)
+    let laid = Counts {
+        rows: layout.rows.len() / rules::ROW,
+        edges: layout.edges.len(),
+    };
+    finish(judged, work, laid, epoch, held.rows, areas, changes)
 }

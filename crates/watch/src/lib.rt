@@ -8,7 +8,7 @@ ghost use Rattle.rules.specs.Lent.{tables_in, areas_in, changes_in};
 ghost use Rattle.watch.specs.Owed.{Owed};
 
 use answers::{Refusal, Updated};
-use replacing::Held;
+use replacing::Counts;
 use types::lent::{Areas, Changes, Layout};
 use types::limits::DagLimits;
 use types::records::{Outcome, Session, Update};
@@ -41,7 +41,7 @@ pub fn update_with_limits(
             answer: Ok(Updated::Stale),
         };
     }
-    let held = Held {
+    let held = Counts {
         rows: session::held_rows(session),
         edges: session::held_edges(session),
     };

@@ -2,8 +2,8 @@
 use Rattle.delta.proofs.Summed.{one-fits, handed-none, handed-one}
 use Rattle.delta.proofs.widths.handed_over.Goals as goal
 
-pub returns-then-is_held : goal.returns-then-is_held
-returns-then-is_held c = search handed-none
+pub returns-then-contains : goal.returns-then-contains
+returns-then-contains c = search handed-none
 
 pub active_width-requires : goal.active_width-requires
 active_width-requires c = search one-fits

@@ -5,8 +5,8 @@ use Rattle.delta.proofs.widths.handover.Goals as goal
 pub loop-i-init : goal.loop-i-init
 loop-i-init c = search summed-start
 
-pub handed_over-sum-requires-clause-w_bound : goal.handed_over-sum-requires-clause-w_bound
-handed_over-sum-requires-clause-w_bound c = search row_fits
+pub handed_over-sum-requires-clause-width_fits : goal.handed_over-sum-requires-clause-width_fits
+handed_over-sum-requires-clause-width_fits c = search row_fits
 
 pub overflow_add-sum : goal.overflow_add-sum
 overflow_add-sum c = search sum_fits

@@ -1,22 +1,19 @@
--- `paired::pairs::place_pairs` meets its contract: after i turns the pairs of the first i rows are placed (`Gathered`), and the image is as it was.
-use Rattle.paired.proofs.Gathered.{gathered-start, parents-before, pairs-room, counts-fit, from-fits, gathered_next, gathered-end, gathered-few}
+-- The pairs of the first i rows are placed (`Gathered`), and then those of the next one.
+use Rattle.paired.proofs.Gathered.{gathered-start, parents-within, parents-fit, pairs-room, gathered_next, gathered-end, gathered-few}
 use borrow.Author.Rules.{rules}
 use Rattle.paired.proofs.pairs.place_pairs.Goals as goal
 
 pub loop-i-init : goal.loop-i-init
 loop-i-init c = (search rules, search gathered-start)
 
-pub place_child-k-requires-clause-parents_before : goal.place_child-k-requires-clause-parents_before
-place_child-k-requires-clause-parents_before c = search parents-before
+pub overflow_add-end : goal.overflow_add-end
+overflow_add-end c = search parents-fit
 
-pub place_child-k-requires-clause-room : goal.place_child-k-requires-clause-room
-place_child-k-requires-clause-room c = search pairs-room
+pub slice_bounds-place-end : goal.slice_bounds-place-end
+slice_bounds-place-end c = search parents-within
 
-pub overflow_add-from : goal.overflow_add-from
-overflow_add-from c = search counts-fit
-
-pub overflow_add-from-in-loop-i : goal.overflow_add-from-in-loop-i
-overflow_add-from-in-loop-i c = search from-fits
+pub place-k-requires : goal.place-k-requires
+place-k-requires c = search pairs-room
 
 pub loop-i-preserved : goal.loop-i-preserved
 loop-i-preserved c = (search rules, search gathered_next)

@@ -1,8 +1,8 @@
--- `paired::pairs::write_pairs` meets its contract: placed as rows of three words the pairs are sorted as pairs are, and the sort writes no word before `at`.
+-- Placed as rows of three words the pairs are sorted as pairs are.
 use Rattle.paired.specs.Pairs.{ascending_pairs}
-use Rattle.paired.proofs.Sorting.{written_count, written_is, written-kept}
+use Rattle.paired.proofs.Sorting.{written_count, written_is}
 use Rattle.paired.proofs.pairs.write_pairs.Goals as goal
 
 pub returns : goal.returns
 unfolding ascending_pairs
-returns c = record { count = search written_count; written = search written_is; image_stays = search written-kept }
+returns c = record { count = search written_count; written = search written_is }

@@ -1,9 +1,0 @@
--- `paired::pairs::count_held` meets its contract: after j turns `held` counts those among the first j ids that were held.
-use Prim.Native.Nat.{◌≤◌}
-use mathlib.Core.Path.{◌≡◌}
-use lib.ListN.{length, take}
-use Rattle.paired.specs.Tables.{ids_in, known}
-use Rattle.paired.proofs.pairs.count_held.Given as goal
-
-abbrev pub invariant-loop-id : goal.invariant-loop-id
-invariant-loop-id l = (l.id-index ≤ length l.list) × (l.held ≤ l.id-index) × (l.held ≡ length (known (take l.id-index l.list) (ids_in l.old l.h)))

@@ -1,9 +1,0 @@
--- `paired::pairs::place_parent` meets its contract: a parent that was held makes one pair, another none.
-use Rattle.paired.proofs.Placing.{parent_skip, parent_put}
-use Rattle.paired.proofs.pairs.place_parent.Goals as goal
-
-pub returns-then-is_held : goal.returns-then-is_held
-returns-then-is_held c = search parent_put
-
-pub returns : goal.returns
-returns c = search parent_skip
