@@ -86,7 +86,7 @@ untouched = lists (spare 3) (spare 2) (spare 8) (spare 8)
 
 -- ---- the table
 
-record Case : Type 0 where
+pub record Case : Type 0 where
   before : Session
   held : List ℕ
   update : Update
@@ -165,7 +165,7 @@ right =
     (refl, refl, (refl, refl, (refl, refl, (refl, refl, (refl, refl, (refl, refl, (refl, refl, (refl, refl, (refl, refl, (refl, refl, (refl, refl, (refl, refl, tt))))))))))))
 
 -- the answers by number and values, in the order of the table
-pub numbered : map (λ (c : Case). (updated_number c.answer, updated_values c.answer)) cases
+pub numbered : map {B = ℕ × List ℕ} (λ (c : Case). (updated_number c.answer, updated_values c.answer)) cases
     ≡ (0, []) ∷ (33, []) ∷ (35, 65534 ∷ 65535 ∷ []) ∷ (34, 65535 ∷ 0 ∷ 2 ∷ []) ∷ (10, 1 ∷ 65536 ∷ []) ∷ (9, 1 ∷ []) ∷ (6, 1 ∷ []) ∷ (29, [])
     ∷ (0, []) ∷ (28, 2 ∷ 1 ∷ []) ∷ (0, []) ∷ (0, []) ∷ []
 numbered = refl
