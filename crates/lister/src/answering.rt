@@ -4,6 +4,7 @@ ghost use Rattle.lister.specs.Listing.{IsKept};
 use crate::tables::Tables;
 use crate::{Standing, tables};
 use held::HeldTables;
+use printing::updates::Left;
 use std::io;
 use types::lent::{Areas, Changes, History, Layout, Lists};
 use types::records::{OrderingMode, SegmentId, Session};
@@ -47,17 +48,15 @@ pub fn end_update(rt: &impl Print, at: Standing, tables: &mut Tables) -> io::Res
     );
     let answer = o.answer;
     let mut out = [0u8; 8192];
-    let n = printing::updates::put_updated(
-        &mut out,
-        0,
-        answer,
-        o.session.rows,
-        &order,
-        &added,
-        &removed,
-        &splits,
-        &merges,
-    );
+    let left = Left {
+        rows: o.session.rows,
+        order: &order,
+        added: &added,
+        removed: &removed,
+        splits: &splits,
+        merges: &merges,
+    };
+    let n = printing::updates::put_updated(&mut out, 0, answer, &left);
     rt.write_all(tables::first(&out, n))?;
     Ok(o.session)
 }

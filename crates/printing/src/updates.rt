@@ -39,48 +39,46 @@ fn put_changes(out: &mut [u8], at: usize, d: DagDelta, splits: &[u64], merges: &
     last_number(out, s, d.handover)
 }
 
-fn put_accepted(
-    out: &mut [u8],
-    at: usize,
-    d: DagDelta,
-    rows: usize,
-    order: &[u64],
-    added: &[u64],
-    removed: &[u64],
-    splits: &[u64],
-    merges: &[u64],
-) -> usize
+// What an update left to be shown: how many rows the session holds after it, and the lists that were lent to it. As many ids as there are rows
+// stand in the order list.
+#[derive(Clone, Copy)]
+pub struct Left<'a> {
+    pub rows: usize,
+    pub order: &'a [u64],
+    pub added: &'a [u64],
+    pub removed: &'a [u64],
+    pub splits: &'a [u64],
+    pub merges: &'a [u64],
+}
+
+fn put_accepted(out: &mut [u8], at: usize, d: DagDelta, left: &Left) -> usize
     ensures { Wrote out.old at
-        (shown_accepted d rows order.now added.now removed.now splits.now merges.now)
+        (shown_accepted d left.now.rows left.now.order.now left.now.added.now left.now.removed.now
+        left.now.splits.now left.now.merges.now)
         out.new result }
 {
     let a = put_byte(out, at, b'A');
     let e = field_number(out, a, d.epoch);
-    let o = field_list(out, e, order, rows);
-    let p = field_list(out, o, added, d.added);
-    let q = field_list(out, p, removed, d.removed);
-    put_changes(out, q, d, splits, merges)
+    let o = field_list(out, e, left.order, left.rows);
+    let p = field_list(out, o, left.added, d.added);
+    let q = field_list(out, p, left.removed, d.removed);
+    put_changes(out, q, d, left.splits, left.merges)
 }
 
-// `rows` is how many rows the session holds after the update: as many ids stand in the order list.
 pub fn put_updated(
     out: &mut [u8],
     at: usize,
     answer: Result<Updated, Refusal>,
-    rows: usize,
-    order: &[u64],
-    added: &[u64],
-    removed: &[u64],
-    splits: &[u64],
-    merges: &[u64],
+    left: &Left,
 ) -> usize
-    ensures { Wrote out.old at (shown_updated answer rows order.now added.now removed.now splits.now merges.now) out.new result }
+    ensures { Wrote out.old at
+        (shown_updated answer left.now.rows left.now.order.now left.now.added.now
+        left.now.removed.now left.now.splits.now left.now.merges.now)
+        out.new result }
 {
     match answer {
         Err(r) => put_refusal(out, at, r.into()),
         Ok(Updated::Stale) => put_bare(out, at, b'T'),
-        Ok(Updated::Accepted(d)) => {
-            put_accepted(out, at, d, rows, order, added, removed, splits, merges)
-        }
+        Ok(Updated::Accepted(d)) => put_accepted(out, at, d, left),
     }
 }
