@@ -1,4 +1,4 @@
--- Where 24 to 27 accept, every edge word of the image is the id of a row: it is a parent or a child of the row in whose stretch it lies.
+-- Where 24 to 27 accept, every edge word is the id of a row: it is a parent or a child of the row in whose stretch it lies.
 -- The row is found by induction on the rows. Assumes nothing.
 use Prim.Native.Nat.{ℕ, zero, suc, ◌+◌, ◌-◌, ◌*◌, ◌≤◌, ◌<◌}
 use native.Mathlib.Omega.{arith}
@@ -11,15 +11,17 @@ use Rattle.lists.specs.Lists.{◌∈◌}
 use Rattle.lists.proofs.Cases.{lt-or-le}
 use Rattle.lists.proofs.HasAt.{has-at}
 use Rattle.words.specs.Table.{ids, where_is, Found, At, Nothing}
-use Rattle.words.proofs.PartLaws.{part_length, part_at}
+use Rattle.words.proofs.PartLaws.{part_at}
 use Rattle.words.proofs.TableLaws.{length_ids, ids_at, is_at}
 use Rattle.rules.specs.Model.{Segment, lookup}
 use Rattle.rules.specs.Tables.{held_width, parents_at, children_at, edges_from, start_of, stretch, held_segments}
 use Rattle.rules.specs.Edges.{links_from}
 use Rattle.rules.proofs.Places.{start-next, start-room, length-stretch}
 use Rattle.rules.proofs.Accepts.{parents-known, children-known}
-use Rattle.tabled.specs.Image.{Tabled, segment_in, segment_found, Image, image_rows, image_edges, image_segments}
+use Rattle.tabled.specs.Image.{Tabled, segment_in, segment_found}
 use Rattle.tabled.proofs.ByRow.{lookup-found}
+use Rattle.held.specs.declared.Held.{Held}
+use Rattle.held.specs.Front.{segments_of}
 use Rattle.ordered.specs.Left.{Closed}
 use Rattle.answers.specs.Answer.{Accepted}
 
@@ -96,5 +98,5 @@ module _ (rows edges : List ℕ) (n : ℕ) (g : Tabled rows edges n) (linked : l
       let p : Row rows n k = row_of rows n k n 0 (omega arith) (omega arith) (omega (arith, g.counts)) in
       edge-known k p.row p.below p.from p.to (lt-or-le k (start_of held_width rows p.row + parents_at rows (p.row * held_width)))
 
-pub closed : (w : List ℕ) (n e : ℕ) → Image w n e → links_from (image_segments w n e) (image_segments w n e) ≡ Accepted → Closed w n e
-closed w n e g linked k h = edges-known (image_rows w n) (image_edges w n e) n g.tabled linked k (rw (part_length w (n * held_width) e g.room) h)
+pub closed : (held : Held) → links_from (segments_of held) (segments_of held) ≡ Accepted → Closed held
+closed held linked k h = edges-known held.rows.now held.edges.now held.count held.tabled linked k h

@@ -11,6 +11,7 @@ use Rattle.rules.specs.Tables.{row_width, held_width, edges_from, segments}
 use Rattle.tabled.specs.Image.{Image, image_segments}
 use Rattle.lookups.specs.Sides.{side_of, pair_index}
 use Rattle.edges.specs.Links.{Tells}
+use Rattle.held.specs.declared.Held.{Held}
 use Rattle.ordered.specs.Left.{Closed}
 
 -- where the scratch begins
@@ -40,9 +41,7 @@ pub record Paired (w : List ℕ) (n e k : ℕ) : Type 0 where
   pub children : Tells (side_of Children) (image_segments w n e) (part w (behind n e) (3 * k)) k
   pub parents : Tells (side_of Parents) (image_segments w n e) (part w (behind n e + 3 * k) (3 * (e - k))) (e - k)
 
--- an image whose every edge word is the id of a row, with room from word `at` on for the order and behind it for ranges
-pub record Graphed (w : List ℕ) (n e at : ℕ) : Type 0 where
-  pub image : Image w n e
-  pub room : behind n e ≤ at
-  pub fits : at + (7 * n + 1 + e) + 3 * n + 3 * e ≤ length w
-  pub closed : Closed w n e
+-- held tables whose every edge word is the id of a row, with a scratch that has room for the order and behind it for ranges
+pub record Graphed (held : Held) (scratch : List ℕ) : Type 0 where
+  pub fits : 7 * held.count + 1 + length held.edges.now + 3 * held.count + 3 * length held.edges.now ≤ length scratch
+  pub closed : Closed held

@@ -13,6 +13,7 @@ ghost use Rattle.rules.specs.Tiling.{transitions_rule, active_of, coverage_rule}
 ghost use Rattle.imaged.specs.Asked.{behind, Imaged};
 
 use answers::Refusal;
+use held::Held;
 
 pub mod graph;
 pub mod links;
@@ -32,5 +33,12 @@ pub fn judge_image(
     ensures n_after { result ≡ Accepted → part w.new (behind n e + 4 * n) n ≡ order_words (order_of depth (segments rows.now edges.now n)) }
 {
     links::judge_edges_in(w, n, e, rows, edges)?;
-    graph::judge_graph(w, n, e, n * rules::HELD + e, depth)
+    let (image, scratch) = w.split_at_mut(n * rules::HELD + e);
+    let (held_rows, held_edges) = image.split_at(n * rules::HELD);
+    let held = Held {
+        rows: held_rows,
+        edges: held_edges,
+        count: n,
+    };
+    graph::judge_graph(&held, scratch, depth)
 }

@@ -1,7 +1,7 @@
--- Loops that lay words from `base` on, behind the image:
+-- Loops that lay words from `base` on:
 --     fill-turn, fill-all     one word a turn, each made from a word of a list
---     fill-before, fill-after, fill-part     the words before and behind them
---     offsets-begin, offsets-next, offsets-end, offsets-before     the offsets, two a turn
+--     fill-after     the words behind them
+--     offsets-begin, offsets-next, offsets-end     the offsets, two a turn
 -- Assumes nothing.
 use mathlib.Core.List.{List, [], append_assoc, map, map-append, ◌++◌, ◌∷◌}
 use mathlib.Core.Path.{ap, refl, sym, ◌∙◌, ◌≡◌}
@@ -36,16 +36,10 @@ module _ (f : ℕ → ℕ) (l w₀ : List ℕ) (base : ℕ) where
   pub fill-all : (w : List ℕ) (k m : ℕ) → k ≡ m → length l ≡ m → w ≡ put w₀ base k (map f (take k l)) → w ≡ put w₀ base m (map f l)
   fill-all w k m e h is = let all : take m l ≡ l = take_all m l (omega arith) in rw (e, all) at is
 
-  -- words before what was laid, and behind it
+  -- words behind what was laid
   module _ (w : List ℕ) (k : ℕ) (h : k ≤ length l) (q : base + k ≤ length w₀) (e : w ≡ put w₀ base k (map f (take k l))) where
-    pub fill-before : (j : ℕ) → j < base → get_or w j 0 ≡ get_or w₀ j 0
-    fill-before j b = rw e (get-before w₀ base k (map f (take k l)) (laid-length k h) q j b)
-
     pub fill-after : (j : ℕ) → base + k ≤ j → get_or w j 0 ≡ get_or w₀ j 0
     fill-after j b = rw e (get_after w₀ base k (map f (take k l)) (laid-length k h) q j b)
-
-    pub fill-part : (b m : ℕ) → b + m ≤ base → part w b m ≡ part w₀ b m
-    fill-part b m p = rw e (part-before w₀ base k (map f (take k l)) (laid-length k h) q b m p)
 
 -- ---- two offsets a turn
 
@@ -55,10 +49,6 @@ module _ (rows w₀ : List ℕ) (base : ℕ) where
   offsets-begin = put-none w₀ base
 
   module _ (w : List ℕ) (i : ℕ) (e : w ≡ put w₀ base (2 * i) (offsets_below rows i)) where
-    -- the words before the offsets
-    pub offsets-before : (j : ℕ) → base + 2 * i ≤ length w₀ → j < base → get_or w j 0 ≡ get_or w₀ j 0
-    offsets-before j h b = rw e (get-before w₀ base (2 * i) (offsets_below rows i) (length-below rows i) h j b)
-
     pub offsets-next : (sum p : ℕ) → base + (2 * i + 2) ≤ length w₀ → sum ≡ start_of held_width rows i → p ≡ parents_at rows (i * held_width)
         → set (set w (base + 2 * i) sum) (base + (2 * i + 1)) (sum + p) ≡ put w₀ base (2 * (i + 1)) (offsets_below rows (i + 1))
     unfolding offsets_below
@@ -80,18 +70,3 @@ module _ (rows w₀ : List ℕ) (base : ℕ) where
         let e₂ : w ≡ put w₀ base (2 * n) (offsets_below rows n) = rw en at e in
         let s₂ : sum ≡ start_of held_width rows n = rw en at s in
         ap (λ (x : List ℕ). set x (base + 2 * n) sum) e₂ ∙ put-grow w₀ base (2 * n) (offsets_below rows n) sum l (omega arith) ∙ rw s₂ refl
-
--- ---- a row that was looked for in the rows of the image, lent as `&w[0..n * HELD]`
-
-pub rows-lent : (w : List ℕ) (n : ℕ) → part w 0 (n * held_width - 0) ≡ image_rows w n
-rows-lent w n = part-as w 0 (n * held_width) (n * held_width) (omega arith)
-
-module _ (w : List ℕ) (n id : ℕ) (found : Found) (is : found ≡ where_is (ids (part w 0 (n * held_width - 0)) held_width n) id) where
-  told : found ≡ where_is (ids (image_rows w n) held_width n) id
-  told = rw rows-lent at is
-
-  pub row_at : (r : ℕ) → found ≡ At r → r ≡ node_named (image_rows w n) n id
-  row_at r e = ap row_of (sym e ∙ told)
-
-  pub row-none : found ≡ Nothing → 0 ≡ node_named (image_rows w n) n id
-  row-none e = ap row_of (sym e ∙ told)

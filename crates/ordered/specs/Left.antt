@@ -1,14 +1,14 @@
--- What the order of an image asks, and what it leaves.
+-- What the order of held tables asks, and what it leaves.
 -- Assumes nothing.
-use Rattle.std.specs.Prelude.{◌≡◌, List, map, ℕ, ◌<◌, get_or}
+use Rattle.std.specs.Prelude.{◌≡◌, List, map, ℕ, ◌<◌, length, get_or}
 use Rattle.words.specs.Table.{ids, where_is, At}
 use Rattle.rules.specs.Tables.{held_width}
 use Rattle.rules.specs.Order.{Ordered, in_order, too_deep, cyclic}
-use Rattle.tabled.specs.Image.{image_rows, image_edges}
+use Rattle.held.specs.declared.Held.{Held}
 
--- each edge word of the image is the id of a row
-abbrev pub Closed : List ℕ → ℕ → ℕ → Type 0
-Closed w n e = (k : ℕ) → k < e → (r : ℕ) × (where_is (ids (image_rows w n) held_width n) (get_or (image_edges w n e) k 0) ≡ At r)
+-- each edge word is the id of a row
+abbrev pub Closed : Held → Type 0
+Closed held = (k : ℕ) → k < length held.edges.now → (r : ℕ) × (where_is (ids held.rows.now held_width held.count) (get_or held.edges.now k 0) ≡ At r)
 
 -- the same order, each taken by another name
 abbrev pub named : (ℕ → ℕ) → Ordered → Ordered

@@ -28,6 +28,6 @@ node_named rows n id = row_of (where_is (ids rows held_width n) id)
 abbrev pub node_edges : List ℕ → ℕ → List ℕ → List ℕ
 node_edges rows n edges = map (node_named rows n) edges
 
--- the id of node k, whose row lies at the front of w
+-- the id of node k
 abbrev pub id_in : List ℕ → ℕ → ℕ
-id_in w k = get_or w (k * held_width) 0
+id_in rows k = get_or rows (k * held_width) 0

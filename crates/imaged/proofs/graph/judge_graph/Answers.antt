@@ -1,11 +1,12 @@
--- `judge_graph` is the order and then the ranges, which are placed behind the order list, so that it stays.
-use Rattle.tabled.proofs.Kept.{image-kept}
-use Rattle.imaged.proofs.Chained.{graph-both, order-stays, behind-order}
-use borrow.Author.Rules.{rules}
+-- `judge_graph` is the order and then the ranges, which are placed behind what the order used, so that the order list stays.
+use Rattle.std.proofs.Common.{◌*◌, arith}
+use Rattle.held.specs.Front.{segments_of}
+use Rattle.imaged.specs.Judging.{order_in}
+use Rattle.imaged.proofs.Chained.{order-stays}
 use Rattle.imaged.proofs.graph.judge_graph.Goals as goal
 
-pub judge_ranges-requires : goal.judge_ranges-requires
-judge_ranges-requires c = record { image = search image-kept; image_before = search rules; ranges_fit = search rules }
-
-pub returns : goal.returns
-returns c = record { value = search (graph-both, c.in_ok-judge_order.was); w_unchanged = search behind-order; n_after = λ accepted. search (order-stays, c.in_ok-judge_order.was) }
+pub returns-clause-n_after : goal.returns-clause-n_after
+returns-clause-n_after c accepted =
+    order-stays c.args.depth (order_in c.args.depth c.args.held.now.count (segments_of c.args.held.now)) c.judge_order.new.scratch c.judge_ranges.new.scratch
+    (4 * c.args.held.now.count) c.args.held.now.count _ (omega (arith, c.judge_order.auto.scratch, c.split_at_mut-order.ensures.front_len, c.requires.fits))
+    c.judge_order.ensures.value c.in_ok-judge_order.was c.judge_order.ensures.order_left
