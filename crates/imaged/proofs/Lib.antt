@@ -1,4 +1,3 @@
-pub mod Front
 pub mod Pairing
 pub mod Closing
 pub mod Chained

@@ -11,12 +11,12 @@ use Rattle.words.proofs.PartLaws.{part_length}
 use Rattle.answers.specs.declared.Refusal.{Refusal}
 use Rattle.answers.specs.Answer.{◌then◌, Judged, Accepted, Refused}
 use Rattle.answers.proofs.Judging.{then_same, then-accepted}
-use Rattle.rules.specs.Model.{Segment}
+use Rattle.rules.specs.Model.{Segment, by_id}
 use Rattle.rules.specs.Tables.{held_width, segments, held_segments}
 use Rattle.rules.specs.Edges.{links_from, edges_rule}
 use Rattle.rules.specs.Order.{order_of, order_rule, order_words}
 use Rattle.rules.specs.Tiling.{transitions_rule, active_of, coverage_rule}
-use Rattle.tabled.specs.Image.{image_rows, image_edges, image_segments}
+use Rattle.tabled.specs.Image.{image_rows, image_edges}
 use Rattle.tabled.proofs.ByRow.{segments-length}
 use Rattle.held.specs.declared.Held.{Held}
 use Rattle.held.specs.Front.{segments_of}
@@ -29,46 +29,47 @@ use Rattle.imaged.proofs.Unsorted.{links-same, order_same, graph_same}
 abbrev image_rule : ℕ → List Segment → Judged
 image_rule depth ss = edges_rule ss then (order_rule depth ss then transitions_rule ss then coverage_rule (active_of ss))
 
-module _ (w rows edges : List ℕ) (n e : ℕ) (g : Imaged w n e rows edges) (j : Judged) (said : j ≡ links_from (image_segments w n e) (image_segments w n e)) where
-  linked : j ≡ edges_rule (segments rows edges n)
-  linked = said ∙ links-same (image_segments w n e) (segments rows edges n) g.same
+-- the words of the image, lent as the rows and edges of held tables
+module _ (w rows edges : List ℕ) (n e : ℕ) (g : Imaged w n e rows edges) (image held_rows held_edges : List ℕ) (is : image ≡ take (behind n e) w)
+    (front : held_rows ≡ take (n * held_width) image) (back : held_edges ≡ drop (n * held_width) image) where
+  rows-are : held_rows ≡ image_rows w n
+  rows-are = front ∙ ap (take (n * held_width)) is ∙ take-take (n * held_width) (behind n e) w (omega arith)
 
-  pub image-refused : (depth : ℕ) (r : Refusal) → j ≡ Refused r → j ≡ image_rule depth (segments rows edges n)
-  image-refused depth r told = then_same j (edges_rule (segments rows edges n)) _ r linked told
+  edges-are : held_edges ≡ image_edges w n e
+  edges-are = back ∙ ap (drop (n * held_width)) is ∙ drop-take (n * held_width) e w
 
-  -- the words of the image, lent as the rows and edges of held tables
-  module _ (told : j ≡ Accepted) (image held_rows held_edges : List ℕ) (is : image ≡ take (behind n e) w)
-      (front : held_rows ≡ take (n * held_width) image) (back : held_edges ≡ drop (n * held_width) image) where
-    rows-are : held_rows ≡ image_rows w n
-    rows-are = front ∙ ap (take (n * held_width)) is ∙ take-take (n * held_width) (behind n e) w (omega arith)
+  pub same : held_segments held_rows held_edges n ≡ by_id (segments rows edges n)
+  same = (λ i. held_segments (rows-are i) (edges-are i) n) ∙ g.same
 
-    edges-are : held_edges ≡ image_edges w n e
-    edges-are = back ∙ ap (drop (n * held_width)) is ∙ drop-take (n * held_width) e w
+  edges-many : length held_edges ≡ e
+  edges-many = ap length edges-are ∙ part_length w (n * held_width) e g.image.room
 
-    same : held_segments held_rows held_edges n ≡ image_segments w n e
-    same = λ i. held_segments (rows-are i) (edges-are i) n
+  rows-many : length (held_segments held_rows held_edges n) ≡ n
+  rows-many = segments-length held_rows held_edges n 0 0
 
-    edges-many : length held_edges ≡ e
-    edges-many = ap length edges-are ∙ part_length w (n * held_width) e g.image.room
+  module _ (j : Judged) (said : j ≡ links_from (held_segments held_rows held_edges n) (held_segments held_rows held_edges n)) where
+    linked : j ≡ edges_rule (segments rows edges n)
+    linked = said ∙ links-same (held_segments held_rows held_edges n) (segments rows edges n) same
 
-    pub image-graphed : (held : Held) → held.rows.now ≡ held_rows → held.edges.now ≡ held_edges → held.count ≡ n
-        → (scratch : List ℕ) → 7 * n + 1 + e + 3 * n + 3 * e ≤ length scratch → Graphed held scratch
-    image-graphed held r q count scratch fits =
-        let all : segments_of held ≡ image_segments w n e = (λ i. held_segments (r i) (q i) (count i)) ∙ same in
-        let many : length held.edges.now ≡ e = ap length q ∙ edges-many in
-        record {
-          fits = omega (arith, many, count);
-          closed = closed held (ap (λ (S : List Segment). links_from S S) all ∙ (sym said ∙ told));
-        }
+    pub image-refused : (depth : ℕ) (r : Refusal) → j ≡ Refused r → j ≡ image_rule depth (segments rows edges n)
+    image-refused depth r told = then_same j (edges_rule (segments rows edges n)) _ r linked told
 
-    rows-many : length (held_segments held_rows held_edges n) ≡ n
-    rows-many = segments-length held_rows held_edges n 0 0
+    module _ (told : j ≡ Accepted) where
+      pub image-graphed : (held : Held) → held.rows.now ≡ held_rows → held.edges.now ≡ held_edges → held.count ≡ n
+          → (scratch : List ℕ) → 7 * n + 1 + e + 3 * n + 3 * e ≤ length scratch → Graphed held scratch
+      image-graphed held r q count scratch fits =
+          let all : segments_of held ≡ held_segments held_rows held_edges n = λ i. held_segments (r i) (q i) (count i) in
+          let many : length held.edges.now ≡ e = ap length q ∙ edges-many in
+          record {
+            fits = omega (arith, many, count);
+            closed = closed held (ap (λ (S : List Segment). links_from S S) all ∙ (sym said ∙ told));
+          }
 
-    pub image-judged : (depth : ℕ) (v : Judged) → v ≡ graph_in depth n (held_segments held_rows held_edges n) → v ≡ image_rule depth (segments rows edges n)
-    image-judged depth v rest =
-        then-accepted j (edges_rule (segments rows edges n)) (order_rule depth (segments rows edges n) then transitions_rule (segments rows edges n) then coverage_rule (active_of (segments rows edges n))) v linked told
-        (rest ∙ graph_same (held_segments held_rows held_edges n) (segments rows edges n) (same ∙ g.same) depth n rows-many)
+      pub image-judged : (depth : ℕ) (v : Judged) → v ≡ graph_in depth n (held_segments held_rows held_edges n) → v ≡ image_rule depth (segments rows edges n)
+      image-judged depth v rest =
+          then-accepted j (edges_rule (segments rows edges n)) (order_rule depth (segments rows edges n) then transitions_rule (segments rows edges n) then coverage_rule (active_of (segments rows edges n))) v linked told
+          (rest ∙ graph_same (held_segments held_rows held_edges n) (segments rows edges n) same depth n rows-many)
 
-    pub image-order : (depth : ℕ) (v : Judged) (l : List ℕ) → (v ≡ Accepted → l ≡ order_words (order_in depth n (held_segments held_rows held_edges n))) → v ≡ Accepted
-        → l ≡ order_words (order_of depth (segments rows edges n))
-    image-order depth v l left accepted = left accepted ∙ ap order_words (order_same (held_segments held_rows held_edges n) (segments rows edges n) (same ∙ g.same) depth n rows-many)
+  pub image-order : (depth : ℕ) (v : Judged) (l : List ℕ) → (v ≡ Accepted → l ≡ order_words (order_in depth n (held_segments held_rows held_edges n))) → v ≡ Accepted
+      → l ≡ order_words (order_of depth (segments rows edges n))
+  image-order depth v l left accepted = left accepted ∙ ap order_words (order_same (held_segments held_rows held_edges n) (segments rows edges n) same depth n rows-many)

@@ -1,17 +1,12 @@
 -- What the checks of an image ask of the work area: the image of the input tables lies at its front, and behind it there is room.
 -- Assumes nothing.
-use Rattle.std.specs.Prelude.{ℕ, ◌+◌, ◌-◌, ◌*◌, ◌≤◌, ◌≡◌, List, length, take}
-use Rattle.words.specs.Part.{part}
+use Rattle.std.specs.Prelude.{ℕ, ◌+◌, ◌*◌, ◌≤◌, ◌≡◌, List, length}
 use Rattle.words.specs.Twins.{NoTwins}
-use Rattle.sorts.specs.Rows as Sorts
-use Rattle.types.specs.declared.records.Side.{Side}
-use Rattle.types.specs.declared.records.Side.TheVariants.{Parents, Children}
 use Rattle.rules.specs.Model.{by_id}
 use Rattle.rules.specs.Tables.{row_width, held_width, edges_from, segments}
 use Rattle.tabled.specs.Image.{Image, image_segments}
-use Rattle.lookups.specs.Sides.{side_of, pair_index}
-use Rattle.edges.specs.Links.{Tells}
 use Rattle.held.specs.declared.Held.{Held}
+use Rattle.held.specs.Front.{segments_of}
 use Rattle.ordered.specs.Left.{Closed}
 
 -- where the scratch begins
@@ -28,18 +23,12 @@ pub record Imaged (w : List ℕ) (n e : ℕ) (rows edges : List ℕ) : Type 0 wh
   pub size : length edges ≡ e
   pub fits : behind n e + (7 * n + 1 + e) + 3 * n + 3 * e ≤ length w
 
--- the k pairs of one side of input tables stand in order from word `from` on, and what was before them stayed
-pub record Indexed (side : Side) (rows edges : List ℕ) (n : ℕ) (w₀ w : List ℕ) (from k : ℕ) : Type 0 where
-  pub pairs : Sorts.rows (part w from (3 * k)) ≡ pair_index side row_width rows edges n
-  pub kept : take from w ≡ take from w₀
-
--- behind the image stand k pairs that tell of the children, and then the others, which tell of the parents
-pub record Paired (w : List ℕ) (n e k : ℕ) : Type 0 where
-  pub image : Image w n e
-  pub few : k ≤ e
-  pub fits : behind n e + 3 * e ≤ length w
-  pub children : Tells (side_of Children) (image_segments w n e) (part w (behind n e) (3 * k)) k
-  pub parents : Tells (side_of Parents) (image_segments w n e) (part w (behind n e + 3 * k) (3 * (e - k))) (e - k)
+-- held tables that say the segments of input tables, ascending: as many rows, no two of one id
+pub record Mirrored (held : Held) (rows edges : List ℕ) : Type 0 where
+  pub same : segments_of held ≡ by_id (segments rows edges held.count)
+  pub once : NoTwins rows row_width held.count
+  pub long : held.count * row_width ≤ length rows
+  pub counts : edges_from row_width rows held.count 0 ≡ length edges
 
 -- held tables whose every edge word is the id of a row, with a scratch that has room for the order and behind it for ranges
 pub record Graphed (held : Held) (scratch : List ℕ) : Type 0 where

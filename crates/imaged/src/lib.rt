@@ -1,5 +1,6 @@
-// 24 to 35 over the image of a layout at the front of the work area: edges, order, splits and merges, coverage, one after the other in the
-// scratch behind it. The image stays, and an accepted layout leaves its order in the scratch.
+// 24 to 35 over the image of a layout at the front of the work area: edges, order, splits and merges, coverage, one after the other. The area is
+// split once behind the image: a stage reads the image as held tables and writes the scratch, so that the image stays. An accepted layout
+// leaves its order in the scratch.
 #![tactic(auto)]
 
 ghost use Rattle.std.specs.Prelude.{◌≡◌, ◌+◌, ◌*◌, take};
@@ -32,7 +33,6 @@ pub fn judge_image(
     ensures w_unchanged { take (behind n e) w.new ≡ take (behind n e) w.old }
     ensures n_after { result ≡ Accepted → part w.new (behind n e + 4 * n) n ≡ order_words (order_of depth (segments rows.now edges.now n)) }
 {
-    links::judge_edges_in(w, n, e, rows, edges)?;
     let (image, scratch) = w.split_at_mut(n * rules::HELD + e);
     let (held_rows, held_edges) = image.split_at(n * rules::HELD);
     let held = Held {
@@ -40,5 +40,6 @@ pub fn judge_image(
         edges: held_edges,
         count: n,
     };
+    links::judge_edges_in(&held, scratch, rows, edges)?;
     graph::judge_graph(&held, scratch, depth)
 }

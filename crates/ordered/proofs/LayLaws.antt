@@ -5,18 +5,16 @@
 -- Assumes nothing.
 use mathlib.Core.List.{List, [], append_assoc, map, map-append, ◌++◌, ◌∷◌}
 use mathlib.Core.Path.{ap, refl, sym, ◌∙◌, ◌≡◌}
-use Prim.Native.Nat.{ℕ, ◌*◌, ◌+◌, ◌-◌, ◌<◌, ◌≤◌}
+use Prim.Native.Nat.{ℕ, ◌*◌, ◌+◌, ◌<◌, ◌≤◌}
 use native.Mathlib.Numerals.{add-one}
 use native.Mathlib.Omega.{arith}
 use lib.ListN.{get_or, length, length-append, length-map, set, take}
 use lib.Seq.{length-take-le, take_all, take-suc}
-use Rattle.ordered.specs.Numbers.{node_named, offsets, offsets_at, offsets_below, row_of}
+use Rattle.ordered.specs.Numbers.{offsets, offsets_at, offsets_below}
 use Rattle.rules.specs.Tables.{held_width, parents_at, start_of}
-use Rattle.tabled.specs.Image.{image_rows}
-use Rattle.words.specs.Part.{part, put}
-use Rattle.words.specs.Table.{ids, where_is, Found, At, Nothing}
+use Rattle.words.specs.Part.{put}
 use Rattle.ordered.proofs.GraphLaws.{length-below}
-use Rattle.words.proofs.PartLaws.{get_after, get-before, part-as, part-before, put-grow, put-none}
+use Rattle.words.proofs.PartLaws.{get_after, put-grow, put-none}
 
 -- ---- one word a turn
 

@@ -11,7 +11,7 @@ use lib.ListN.{get_or, length, set, take}
 use Rattle.order.specs.Graph.{Nodes}
 use Rattle.held.specs.declared.Held.{Held}
 use Rattle.ordered.specs.Numbers.{id_in, node_edges, node_named, offsets, offsets_below}
-use Rattle.rules.specs.Tables.{children_at, held_width, parents_at, start_of}
+use Rattle.rules.specs.Tables.{held_width, parents_at, start_of}
 use Rattle.words.specs.Part.{part, put}
 use Rattle.ordered.proofs.LayLaws.{fill-after, fill-all, fill-turn, offsets-end, offsets-next}
 use Rattle.rules.proofs.Places.{start-room}
