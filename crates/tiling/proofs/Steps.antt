@@ -107,9 +107,9 @@ module _ (l k : List ℕ) (n : ℕ) (len : length l ≡ 3 * n) (s : rows k ≡ s
   unfolding coverage_rule walked
   coverage-walk w r some said v = rw (v, none_rows l n len some, said, s) refl
 
-pub coverage-none : (l : List ℕ) (n : ℕ) (r : Judged) → length l ≡ 3 * n → n ≡ 0 → r ≡ Refused NoActiveSegments → r ≡ coverage_rule (rows l)
+pub coverage_none : (l : List ℕ) (n : ℕ) (r : Judged) → length l ≡ 3 * n → n ≡ 0 → r ≡ Refused NoActiveSegments → r ≡ coverage_rule (rows l)
 unfolding coverage_rule
-coverage-none l n r len z v = by (rows l) (rows-length l n len)
+coverage_none l n r len z v = by (rows l) (rows-length l n len)
   where
     by : (t : List Row) → length t ≡ n → r ≡ coverage_rule t
     by [] e = v
