@@ -51,9 +51,9 @@ module _ (table : List ℕ) where
   count-take (suc k) (x ∷ l) = omega (arith, count-take k l)
 
 -- a stretch, as it was copied
-pub edges-copied : (w w' edges : List ℕ) (place from p c : ℕ) → from + p + c ≤ length edges → w' ≡ put w place (length (stretch edges from (from + p + c))) (stretch edges from (from + p + c))
+pub edges_copied : (w w' edges : List ℕ) (place from p c : ℕ) → from + p + c ≤ length edges → w' ≡ put w place (length (stretch edges from (from + p + c))) (stretch edges from (from + p + c))
     → w' ≡ put w place (p + c) (stretch edges from (from + p + c))
-edges-copied w w' edges place from p c h e =
+edges_copied w w' edges place from p c h e =
     let q : from + p + c ≡ from + (p + c) = omega arith in
     let l : length (stretch edges from (from + p + c)) ≡ p + c = ap (λ (k : ℕ). length (stretch edges from k)) q ∙ length-stretch edges from (p + c) (omega arith) in
     e ∙ put_as w place (length (stretch edges from (from + p + c))) (p + c) (stretch edges from (from + p + c)) (stretch edges from (from + p + c)) l refl
@@ -69,8 +69,8 @@ module _ (table edges : List ℕ) (n : ℕ) (all : edges_from row_width table n 
   abbrev count : ℕ → ℕ
   count p = edge_count table ((at S p).1 * row_width)
 
-  key-room : (p : ℕ) → p < n → (at S p).2 + parents_at table ((at S p).1 * row_width) + children_at table ((at S p).1 * row_width) ≤ length edges
-  key-room p below =
+  key_room : (p : ℕ) → p < n → (at S p).2 + parents_at table ((at S p).1 * row_width) + children_at table ((at S p).1 * row_width) ≤ length edges
+  key_room p below =
       let k = index_at table n p below in
       omega (arith, start-room row_width table n (at S p).1 (length edges) all k.0.to, k.1.at)
 
@@ -78,7 +78,7 @@ module _ (table edges : List ℕ) (n : ℕ) (all : edges_from row_width table n 
   keyed-length p below =
       let W : ℕ = (at S p).1 * row_width in
       let e : (at S p).2 + parents_at table W + children_at table W ≡ (at S p).2 + count p = omega arith in
-      ap (λ (k : ℕ). length (stretch edges (at S p).2 k)) e ∙ length-stretch edges (at S p).2 (count p) (omega (arith, key-room p below))
+      ap (λ (k : ℕ). length (stretch edges (at S p).2 k)) e ∙ length-stretch edges (at S p).2 (count p) (omega (arith, key_room p below))
 
   edges_more : (p : ℕ) → p < n → key_edges table edges (take (suc p) S) ≡ key_edges table edges (take p S) ++ keyed p
   edges_more p below = turn_more (λ (x : Row). row_edges table edges (x.1 * row_width) x.2) S p (omega (arith, length-index table n))
@@ -109,7 +109,7 @@ module _ (table edges : List ℕ) (n : ℕ) (all : edges_from row_width table n 
     w-is = ap (λ (r : ℕ). r * row_width) (key_row w table n a x p below)
 
     pub from-room : from + parents_at table W + children_at table W ≤ length edges
-    from-room = rw (w-is, key-start w table n a x p below) (key-room p below)
+    from-room = rw (w-is, key-start w table n a x p below) (key_room p below)
 
     one_more : count_of table (take (p + 1) S) ≡ count_of table (take p S) + edge_count table W
     one_more = rw (add-one p, w-is) (count-suc table S p (omega (arith, length-index table n)))

@@ -109,3 +109,8 @@ row_done index places table m from p f said w w1 w2 place b h r e g =
     let H : List ℕ = head_words (head_at table from) (parents_at table from) (children_at table from) in
     row_written w w1 w2 place H (site_words (site_of (get_or table from 0) (placements places m))) (omega arith) (head-length (head_at table from) (parents_at table from) (children_at table from)) e
     (g ∙ ap (λ (s : Option Site). put w1 (place + head_width) 4 (site_words s)) (site-is index places m (get_or table from 0) p f said))
+
+-- what `find_place` rests on, and `write_site`
+pub ruleset finding = (fits-key, fits-place, fits_word, lent-size, lent-up, found_word, found-told, nothing-told)
+
+pub ruleset site_writing = (k-room, k-fits, put-found, put-nothing)

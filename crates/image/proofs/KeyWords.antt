@@ -1,5 +1,5 @@
 -- The words of the indexes behind the image: the key at place p says its row and where its edges begin (key_row, key-start), its row is one
--- of the table (key-room), and what is written before them leaves both indexes (indexed-kept, ready-kept).
+-- of the table (key_room), and what is written before them leaves both indexes (indexed-kept, ready-kept).
 -- By the rows of the index read as words. Assumes nothing.
 use mathlib.Core.Path.{◌≡◌, sym, ap, ◌∙◌}
 use mathlib.Core.List.{List}
@@ -38,8 +38,8 @@ module _ (w table : List ℕ) (n a : ℕ) (x : Indexed (part w a (3 * n)) table 
   key_below : get_or w (a + p * 3 + 1) 0 < n
   key_below = omega (arith, key_row, (index_at table n p below).0.to)
 
-  pub key-room : n * row_width ≤ length table → get_or w (a + p * 3 + 1) 0 * row_width + row_width ≤ length table
-  key-room h = omega (arith, key_below)
+  pub key_room : n * row_width ≤ length table → get_or w (a + p * 3 + 1) 0 * row_width + row_width ≤ length table
+  key_room h = omega (arith, key_below)
 
   pub key_fits : n * row_width ≤ length table → length table * 8 < 2 ^ 63 → Fits w64 (get_or w (a + p * 3 + 1) 0 * row_width)
   key_fits h g = record { fits = omega (arith, key_below) }

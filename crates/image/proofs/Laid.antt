@@ -3,7 +3,7 @@
 --     image-segments                  read back, it is the segments in ascending order
 --     image-laid                      where no id stands twice, it is an `Image`
 --     stored-rows, stored-edges       the held areas then begin with the held tables
---     copied-first, copied_behind     a part of the work area as it was copied
+--     copied_first, copied_behind     a part of the work area as it was copied
 -- By the laws of `put`, and by the tables read back (HeldSegments of the rule book). Assumes nothing.
 use mathlib.Core.Path.{◌≡◌, refl, sym, ap, ◌∙◌}
 use mathlib.Core.List.{List, [], ◌∷◌, ◌++◌, map}
@@ -122,8 +122,8 @@ module _ (w l l' : List ℕ) where
   copied : (a to k : ℕ) → a + k ≡ to → l' ≡ put l 0 (length (part w a (to - a))) (part w a (to - a)) → l' ≡ front (part w a k) l
   copied a to k q e = rw (part-as w a to k q) at e
 
-  pub copied-first : (k : ℕ) → l' ≡ put l 0 (length (part w 0 (k - 0))) (part w 0 (k - 0)) → l' ≡ front (part w 0 k) l
-  copied-first k e = copied 0 k k (zero-add k) e
+  pub copied_first : (k : ℕ) → l' ≡ put l 0 (length (part w 0 (k - 0))) (part w 0 (k - 0)) → l' ≡ front (part w 0 k) l
+  copied_first k e = copied 0 k k (zero-add k) e
 
   pub copied_behind : (a k : ℕ) → l' ≡ put l 0 (length (part w a (a + k - a))) (part w a (a + k - a)) → l' ≡ front (part w a k) l
   copied_behind a k e = copied a (a + k) k refl e

@@ -1,4 +1,4 @@
--- What the writers of one row use: an optional field fixed in place (fix_none, fix-some), the head and the site copied and then fixed
+-- What the writers of one row use: an optional field fixed in place (fix_none, fix_some), the head and the site copied and then fixed
 -- (head-copied, site-copied), no site (cleared), and the site behind the head (row_written). A part of k words is written out
 -- (part-words), and each fix is a part put inside it (put-inner). Assumes nothing.
 use mathlib.Core.Path.{◌≡◌, refl, sym, ap, ◌∙◌}
@@ -33,8 +33,8 @@ module _ (w : List ℕ) (place : ℕ) (fits : place + 2 ≤ length w) where
       ∙ ap (λ (x : ℕ). put w place 2 (x ∷ 0 ∷ [])) h
       ∙ ap (put w place 2) (sym o)
 
-  pub fix-some : (get_or w place 0 ≡ 0 → ⊥) → set w place 1 ≡ put w place 2 (option_words (optional (get_or w place 0) (get_or w (place + 1) 0)))
-  fix-some h =
+  pub fix_some : (get_or w place 0 ≡ 0 → ⊥) → set w place 1 ≡ put w place 2 (option_words (optional (get_or w place 0) (get_or w (place + 1) 0)))
+  fix_some h =
       let o : option_words (optional (get_or w place 0) (get_or w (place + 1) 0)) ≡ 1 ∷ get_or w (place + 1) 0 ∷ [] = rw (ne_eqb (get_or w place 0) 0 h) refl in
       let z : place + 0 ≡ place = add-zero place in
       ap (λ (k : ℕ). set w k 1) (sym z)

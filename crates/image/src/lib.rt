@@ -11,7 +11,10 @@ ghost use Rattle.image.specs.Written.{Indexed, Ready, key_rows, row_edges, key_e
 
 mod row;
 
+use types::lent::Layout;
+
 // The held rows, by the index of the segment rows.
+#[tactic(auto, using(crate::proofs::KeyWords::key_room, crate::proofs::KeyWords::key_fits))]
 fn write_rows(w: &mut [u64], table: &[u64], n: usize, places: &[u64], m: usize, a: usize, b: usize)
     requires rows_before { n * held_width ≤ a }
     requires ready { Ready w.old table.now n places.now m a b }
@@ -25,6 +28,7 @@ fn write_rows(w: &mut [u64], table: &[u64], n: usize, places: &[u64], m: usize, 
 }
 
 // The edges of the row that begins at word `row` of the table, from `from` on; what is answered is the place behind them.
+#[tactic(auto, using(crate::proofs::Edges::edges_copied))]
 fn copy_edges(
     w: &mut [u64],
     at: usize,
@@ -34,10 +38,12 @@ fn copy_edges(
     row: usize,
 ) -> usize
     requires rows_in_table { row + row_width ≤ length table.now }
-    requires edges_in_table { from + parents_at table.now row + children_at table.now row ≤ length edges.now }
-    requires edges_have_room { at + parents_at table.now row + children_at table.now row ≤ length w.old }
+    requires edges_in_table { from + parents_at table.now row + children_at table.now row ≤
+        length edges.now }
+    requires edges_have_room { at + parents_at table.now row + children_at table.now row ≤
+        length w.old }
     ensures value { result ≡ at + parents_at table.now row + children_at table.now row }
-    ensures w_after { w.new ≡
+    ensures copied { w.new ≡
         put w.old at (parents_at table.now row + children_at table.now row)
         (row_edges table.now edges.now row from) }
 {
@@ -49,6 +55,7 @@ fn copy_edges(
 }
 
 // The held edges, behind the n rows, by the same index.
+#[tactic(auto, using(crate::proofs::KeyWords::key_fits))]
 fn write_edges(w: &mut [u64], table: &[u64], n: usize, edges: &[u64], a: usize)
     requires rows_in_table { n * row_width ≤ length table.now }
     requires counts_match { edges_from row_width table.now n 0 ≡ length edges.now }
@@ -67,35 +74,32 @@ fn write_edges(w: &mut [u64], table: &[u64], n: usize, edges: &[u64], a: usize)
 }
 
 // The image of n segment rows and m placement rows, whose indexes lie from a and from b on.
-pub fn write_image(
-    w: &mut [u64],
-    table: &[u64],
-    n: usize,
-    edges: &[u64],
-    places: &[u64],
-    m: usize,
-    a: usize,
-    b: usize,
-)
-    requires image_before { n * held_width + length edges.now ≤ a }
-    requires counts_match { edges_from row_width table.now n 0 ≡ length edges.now }
-    requires ready { Ready w.old table.now n places.now m a b }
+pub fn write_image(w: &mut [u64], layout: &Layout, n: usize, m: usize, a: usize, b: usize)
+    requires image_before { n * held_width + length layout.now.edges.now ≤ a }
+    requires counts_match { edges_from row_width layout.now.rows.now n 0 ≡
+        length layout.now.edges.now }
+    requires ready { Ready w.old layout.now.rows.now n layout.now.places.now m a b }
     ensures { w.new ≡
-        put w.old 0 (n * held_width + length edges.now)
-        (held_rows (segments table.now edges.now n) (placements places.now m)
-        ++ held_edges (segments table.now edges.now n) (placements places.now m)) }
+        put w.old 0 (n * held_width + length layout.now.edges.now)
+        (held_rows
+        (segments layout.now.rows.now layout.now.edges.now n)
+        (placements layout.now.places.now m)
+        ++ held_edges
+        (segments layout.now.rows.now layout.now.edges.now n)
+        (placements layout.now.places.now m)) }
 {
-    write_rows(w, table, n, places, m, a, b);
-    write_edges(w, table, n, edges, a);
+    write_rows(w, layout.rows, n, layout.places, m, a, b);
+    write_edges(w, layout.rows, n, layout.edges, a);
 }
 
 // The image of n rows and e edges, copied to the front of the held areas.
+#[tactic(auto, using(crate::proofs::Laid::copied_first, crate::proofs::Laid::copied_behind))]
 pub fn store_image(w: &[u64], n: usize, e: usize, held: &mut [u64], links: &mut [u64])
     requires image_in_area { n * held_width + e ≤ length w.now }
     requires rows_fit { n * held_width ≤ length held.old }
     requires edges_fit { e ≤ length links.old }
-    ensures held_after { held.new ≡ front (part w.now 0 (n * held_width)) held.old }
-    ensures links_after { links.new ≡ front (part w.now (n * held_width) e) links.old }
+    ensures rows_stored { held.new ≡ front (part w.now 0 (n * held_width)) held.old }
+    ensures edges_stored { links.new ≡ front (part w.now (n * held_width) e) links.old }
 {
     let k = n * rules::HELD;
     let to = k + e;

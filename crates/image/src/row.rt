@@ -7,9 +7,11 @@ ghost use Rattle.rules.specs.Tables.{head_width, row_width, held_width, place_wi
 ghost use Rattle.image.specs.Written.{Placed, Inside, row_words, place_found, site_found};
 
 // The optional field in the two words from `at`: absent is 0, 0, and present is 1 and the word.
+#[tactic(auto, using(crate::proofs::Words::fix_none, crate::proofs::Words::fix_some))]
 fn fix_option(w: &mut [u64], at: usize)
     requires { at + 2 ≤ length w.old }
-    ensures { w.new ≡ put w.old at 2 (option_words (optional (get_or w.old at 0) (get_or w.old (at + 1) 0))) }
+    ensures { w.new ≡
+        put w.old at 2 (option_words (optional (get_or w.old at 0) (get_or w.old (at + 1) 0))) }
 {
     if w[at] == 0 {
         w[at + 1] = 0;
@@ -45,6 +47,7 @@ fn copy_site(w: &mut [u64], at: usize, places: &[u64], from: usize)
 }
 
 // No site.
+#[tactic(auto, using(crate::proofs::Words::cleared))]
 fn no_site(w: &mut [u64], at: usize)
     requires { at + 4 ≤ length w.old }
     ensures { w.new ≡ put w.old at 4 (0 ∷ 0 ∷ 0 ∷ 0 ∷ []) }
@@ -54,6 +57,7 @@ fn no_site(w: &mut [u64], at: usize)
 }
 
 // The site of the placement row that was found.
+#[tactic(auto, using(crate::proofs::Found::site_writing))]
 fn write_site(w: &mut [u64], at: usize, places: &[u64], found: Option<usize>)
     requires site_fits { at + 4 ≤ length w.old }
     requires inside { Inside places.now found }
@@ -66,6 +70,7 @@ fn write_site(w: &mut [u64], at: usize, places: &[u64], found: Option<usize>)
 }
 
 // The row of the placement with that id, by the index of m placement rows that lies from b on.
+#[tactic(auto, using(crate::proofs::Found::finding))]
 fn find_place(w: &[u64], b: usize, m: usize, id: u64) -> Option<usize>
     requires index_in_area { b + 3 * m ≤ length w.now }
     requires ascends { Ascends (ids (part w.now b (3 * m)) 3 m) }
@@ -80,6 +85,7 @@ fn find_place(w: &[u64], b: usize, m: usize, id: u64) -> Option<usize>
 }
 
 // The held row of the segment row that begins at word `from` of the table.
+#[tactic(auto, using(crate::proofs::Found::inside))]
 pub fn write_row(
     w: &mut [u64],
     at: usize,
@@ -94,7 +100,8 @@ pub fn write_row(
     requires rows_in_table { from + row_width ≤ length table.now }
     requires places_in_table { m * place_width ≤ length places.now }
     requires placed { Placed (part w.old b (3 * m)) places.now m }
-    ensures { w.new ≡ put w.old at held_width (row_words table.now (placements places.now m) from) }
+    ensures { w.new ≡
+        put w.old at held_width (row_words table.now (placements places.now m) from) }
 {
     let id = table[from];
     let found = find_place(w, b, m, id);

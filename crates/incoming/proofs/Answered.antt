@@ -1,7 +1,6 @@
--- What `judge_incoming` answers, from what its callees did: the answer is that of `incoming_rule` whichever rule refuses first, and a refusal promises nothing
--- of the indexes (no-promise). By the laws of `then`, and since there are as many segments as rows. Assumes nothing.
+-- What `judge_incoming` answers, from what its callees did: the answer is that of `incoming_rule` whichever rule refuses first.
+-- By the laws of `then`, and since there are as many segments as rows. Assumes nothing.
 use Prim.Native.Nat.{ℕ}
-use native.Mathlib.Omega.{arith}
 use mathlib.Core.Path.{◌≡◌, refl}
 use mathlib.Core.List.{List}
 use lib.ListN.{length}
@@ -10,7 +9,6 @@ use Rattle.types.specs.declared.limits.DagLimits.{DagLimits}
 use Rattle.rules.specs.Model.{Segment, Placement}
 use Rattle.rules.specs.Tables.{segments, placements}
 use Rattle.rules.specs.Rows.{size_rule, placements_rule, rows_rule, dangling_rule}
-use Rattle.image.specs.Written.{Ready}
 use Rattle.incoming.specs.Incoming.{incoming_rule}
 use Rattle.incoming.proofs.Counts.{segments-count, placements-count}
 use Rattle.answers.specs.Answer.{Judged, Accepted, Refused}
@@ -42,6 +40,3 @@ module _ (epoch size : ℕ) (limits : DagLimits) (table edges : List ℕ) (n : �
       pub all-judged : z ≡ Accepted → (v : Judged) → v ≡ dangling_rule (segments table edges n) (placements places m) → v ≡ incoming_rule epoch size limits (segments table edges n) (placements places m)
       unfolding incoming_rule
       all-judged e v q = rw (← sizes, fit, ← placed, known, ← listed, e) q
-
-pub no-promise : (x : Judged) (r : Refusal) → x ≡ Refused r → (w table : List ℕ) (n : ℕ) (places : List ℕ) (m a b : ℕ) → x ≡ Accepted → Ready w table n places m a b
-no-promise x r e w table n places m a b q = let z : ◌≡◌ {A = ℕ} 0 1 = cc in absurd (omega arith)

@@ -72,3 +72,6 @@ module _ (n : ℕ) (edges : List ℕ) (m : ℕ) where
         once = places-ascend (part w₂ b (3 * m)) places m (places-distinct places m (sym placed ∙ e)) size₂ second₂;
       };
     }
+
+-- that both indexes are as long as 23 asks
+pub ruleset long = (index-long, places-long)

@@ -45,3 +45,6 @@ module _ (w : List ℕ) (a b n f : ℕ) (ys w₂ : List ℕ) (ends : a + 3 * n �
 
     pub rows-flagged : rows ys ≡ segment_index table n → Twins (ids table row_width n) (part w₂ f (f + n - f))
     rows-flagged is = rows-twins table n (part w₂ f (f + n - f)) (told (segment_index table n) is t)
+
+-- what `judge_rows_in` rests on
+pub ruleset rows_staged = (between_stays, rows-flagged)

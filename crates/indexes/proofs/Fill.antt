@@ -40,9 +40,9 @@ module _ (table : List ℕ) (n i total : ℕ) (all : edges_from row_width table 
   pub place-fits-2 : Fits w64 (place + parents_at table (i * row_width) + children_at table (i * row_width))
   place-fits-2 = record { fits = omega (arith, start-room row_width table n i total all below, h.fits) }
 
-pub place-next : (table : List ℕ) (i place : ℕ) → place ≡ start_of row_width table i
+pub place_next : (table : List ℕ) (i place : ℕ) → place ≡ start_of row_width table i
     → place + parents_at table (i * row_width) + children_at table (i * row_width) ≡ start_of row_width table (i + 1)
-place-next table i place e = rw (e, start-next row_width table i) refl
+place_next table i place e = rw (e, start-next row_width table i) refl
 
 module _ (table index index₀ : List ℕ) (n i : ℕ) (len : length index₀ ≡ 3 * n) (rest : rows index ≡ take i (segment_keys table n 0 0) ++ drop i (rows index₀)) where
   pub rows_next : i < n → (index' : List ℕ) (place : ℕ) → place ≡ start_of row_width table i → rows index' ≡ set (rows index) i (get_or table (i * row_width) 0, i, place)
@@ -57,14 +57,14 @@ module _ (table index index₀ : List ℕ) (n i : ℕ) (len : length index₀ �
 -- ---- the placement rows
 
 module _ (table index index₀ : List ℕ) (m i : ℕ) (len : length index₀ ≡ 3 * m) (rest : rows index ≡ take i (placement_keys table m 0) ++ drop i (rows index₀)) where
-  pub places-next : i < m → (index' : List ℕ) → rows index' ≡ set (rows index) i (get_or table (i * place_width) 0, i, 0)
+  pub places_next : i < m → (index' : List ℕ) → rows index' ≡ set (rows index) i (get_or table (i * place_width) 0, i, 0)
       → rows index' ≡ take (i + 1) (placement_keys table m 0) ++ drop (i + 1) (rows index₀)
-  places-next h index' e =
+  places_next h index' e =
       fill-next (placement_keys table m 0) (rows index) (rows index') (rows index₀) m i (get_or table (i * place_width) 0, i, 0) h (length-place-keys table m 0) (rows-length index₀ m len) rest
       (place-keys-at table row0 m i h) e
 
-  pub places-end : m ≤ i → rows index ≡ placement_keys table m 0
-  places-end h = fill_end (placement_keys table m 0) (rows index) (rows index₀) m i h (length-place-keys table m 0) (rows-length index₀ m len) rest
+  pub places_end : m ≤ i → rows index ≡ placement_keys table m 0
+  places_end h = fill_end (placement_keys table m 0) (rows index) (rows index₀) m i h (length-place-keys table m 0) (rows-length index₀ m len) rest
 
 -- ---- sorted
 

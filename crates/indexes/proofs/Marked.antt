@@ -1,7 +1,7 @@
 -- Flags in the words w₀ from `to`, marked by the index in the words from `place`, neighbour by neighbour.
---     differ, past, here     what one test leaves
+--     here                   what a test that flags a row leaves
 --     start, turn, done      the pass over the index: after p rows the flags are those of the first p
---     flags-put, flags-tell  all of it
+--     flags_put, flags_tell  all of it
 -- By the laws of parts: the index stands before the flags, so a flag changes no word of it. Assumes nothing.
 use native.Mathlib.Omega.{arith}
 use mathlib.Core.Path.{◌≡◌, refl, sym, ap, ◌∙◌}
@@ -106,8 +106,8 @@ module _ (w w₂ zs : List ℕ) (place to n : ℕ) (before : place + 3 * n ≤ t
       let l : length marks ≡ n = length-paired (rows (part w place (3 * n))) (replicate n 0) ∙ ap length (sym zeros) ∙ lent.size in
       ap (λ (t : List ℕ). part t to n) put-marks ∙ part-put w to n marks l fits
 
-  pub flags-put : w₂ ≡ put w to n (part w₂ to n)
-  flags-put = put-marks ∙ ap (put w to n) (sym marks-are)
+  pub flags_put : w₂ ≡ put w to n (part w₂ to n)
+  flags_put = put-marks ∙ ap (put w to n) (sym marks-are)
 
-  pub flags-tell : Tells (rows (part w place (3 * n))) n (part w₂ to n)
-  flags-tell = record { twins = λ l K keyed size is. rw (marks-are, is, ← size) (tells l K keyed) }
+  pub flags_tell : Tells (rows (part w place (3 * n))) n (part w₂ to n)
+  flags_tell = record { twins = λ l K keyed size is. rw (marks-are, is, ← size) (tells l K keyed) }

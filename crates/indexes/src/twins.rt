@@ -22,9 +22,10 @@ fn mark(w: &mut [u64], to: usize, n: usize, x: u64, y: u64, k: u64)
 }
 
 // Each row of the index with the row before it.
+#[tactic(auto, using(crate::proofs::Marked::turn))]
 fn mark_pairs(w: &mut [u64], at: usize, to: usize, n: usize)
-    requires n_bound { at + 3 * n ≤ to }
-    requires n_in_bounds { to + n ≤ length w.old }
+    requires index_before_flags { at + 3 * n ≤ to }
+    requires flags_in_area { to + n ≤ length w.old }
     ensures { w.new ≡ put w.old to n (paired (rows (part w.old at (3 * n))) (part w.old to n)) }
 {
     for p in 1..n {
@@ -37,10 +38,11 @@ fn mark_pairs(w: &mut [u64], at: usize, to: usize, n: usize)
 }
 
 // The index of n rows stands from `at`; the flags go to the n words from `to`, and no other word changes.
+#[tactic(auto, using(crate::proofs::Marked::flags_put, crate::proofs::Marked::flags_tell))]
 pub fn mark_twins(w: &mut [u64], at: usize, to: usize, n: usize)
-    requires n_bound { at + 3 * n ≤ to }
-    requires n_in_bounds { to + n ≤ length w.old }
-    ensures w_after { w.new ≡ put w.old to n (part w.new to n) }
+    requires index_before_flags { at + 3 * n ≤ to }
+    requires flags_in_area { to + n ≤ length w.old }
+    ensures only_flags_change { w.new ≡ put w.old to n (part w.new to n) }
     ensures tells { Tells (rows (part w.old at (3 * n))) n (part w.new to n) }
 {
     words::clear(&mut w[to..to + n]);

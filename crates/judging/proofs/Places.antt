@@ -14,7 +14,7 @@ use Rattle.words.specs.Table.{ids}
 use Rattle.words.specs.Twins.{Twins}
 use Rattle.rules.specs.Tables.{place_width, placements, placements_from}
 use Rattle.rules.specs.Rows.{places_from, placements_rule}
-use Rattle.judging.proofs.Before.{ids_more, flag-hit, flag-miss}
+use Rattle.judging.proofs.Before.{ids_more, flag-in, flag-hit, flag-miss}
 use Rattle.answers.specs.declared.Refusal.TheVariants.{DuplicatePlacement, EmptyPlacementUrl}
 
 pub places-start : (places : List ℕ) (m : ℕ) → placements_rule (placements places m) ≡ places_from [] (placements_from places (m - 0) 0)
@@ -44,3 +44,6 @@ module _ (places : List ℕ) (m i : ℕ) (v : Judged) (rest : v ≡ places_from 
 
         pub places-next : (get_or places (i * place_width + 1) 0 ≡ 0 → ⊥) → v ≡ places_from (take (i + 1) (ids places place_width m)) (placements_from places (m - (i + 1)) (i + 1))
         places-next h = rw (places-open, flag-miss places place_width m i below flags twins new, ne_eqb _ _ h)
+
+-- what `judge_placements` rests on
+pub ruleset placements_judged = (flag-in, places-start, places-end, places-twin, places-empty, places-next)

@@ -16,7 +16,7 @@ use Rattle.words.specs.Twins.{Twins}
 use Rattle.rules.specs.Tables.{row_width, parents_at, children_at, segment_at, segments_from, segments, edges_from}
 use Rattle.rules.specs.Rows.{row_rule, edge_count_rule, counted_rule, rows_from, rows_rule}
 use Rattle.rules.proofs.Places.{length-stretch}
-use Rattle.judging.proofs.Before.{ids_more, flag-hit, flag-miss}
+use Rattle.judging.proofs.Before.{ids_more, flag-in, flag-hit, flag-miss}
 use Rattle.answers.specs.declared.Refusal.TheVariants.{DuplicateSegment}
 
 -- ---- the edges: those of the rows to come end where the table does
@@ -99,3 +99,6 @@ module _
           rows_from layout limit (take (i + 1) (ids rows row_width n)) (parents + parents_at rows (i * row_width)) (children + children_at rows (i * row_width))
           (segments_from row_width rows edges (n - (i + 1)) (i + 1) (place + parents_at rows (i * row_width) + children_at rows (i * row_width)))
       rows_next told = rw (rows-open, flag-miss rows row_width n i below flags twins new, ← said, told)
+
+-- what `judge_rows` rests on
+pub ruleset rows_judged = (flag-in, room-start, room_fits, room-fits-2, parents-fit, children-fit, rows_start, rows_end)

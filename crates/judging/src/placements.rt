@@ -8,8 +8,9 @@ ghost use Rattle.rules.specs.Rows.{placements_rule};
 use answers::Refusal;
 
 // 6, 7: a flag says whether the id of its row came before.
+#[tactic(auto, using(crate::proofs::Places::placements_judged))]
 pub fn judge_placements(places: &[u64], m: usize, flags: &[u64]) -> Result<(), Refusal>
-    requires place_width_in_bounds { m * place_width ≤ length places.now }
+    requires rows_in_table { m * place_width ≤ length places.now }
     requires twins { Twins (ids places.now place_width m) flags.now }
     ensures { result ≡ placements_rule (placements places.now m) }
 {

@@ -82,8 +82,9 @@ fn judge_lists(id: SegmentId, parents: &[u64], children: &[u64]) -> Result<(), R
 // 9 to 21, for the row that begins at word w and whose edges begin at `at`.
 #[tactic(auto, unfolding(rules::specs::Rows::row_rule))]
 fn judge_row(layout: u64, rows: &[u64], w: usize, edges: &[u64], at: usize) -> Result<(), Refusal>
-    requires head_width_in_bounds { w + head_width ≤ length rows.now }
-    requires edges_in_table { at + parents_at rows.now w + children_at rows.now w ≤ length edges.now }
+    requires head_in_table { w + head_width ≤ length rows.now }
+    requires edges_in_table { at + parents_at rows.now w + children_at rows.now w ≤
+        length edges.now }
     ensures { result ≡ row_rule layout (segment_at rows.now edges.now w at) }
 {
     let mid = at + rows[w + rules::PARENTS] as usize;
@@ -94,12 +95,19 @@ fn judge_row(layout: u64, rows: &[u64], w: usize, edges: &[u64], at: usize) -> R
     judge_lists(SegmentId(rows[w]), parents, children)
 }
 
+// How many parents, and how many children, the rows up to one have.
+#[derive(Clone, Copy)]
+struct Totals {
+    parents: usize,
+    children: usize,
+}
+
 // 22.
 #[tactic(auto, unfolding(rules::specs::Rows::edge_count_rule))]
-fn judge_edge_count(limit: u64, parents: usize, children: usize) -> Result<(), Refusal>
-    ensures { result ≡ edge_count_rule limit (max parents children) }
+fn judge_edge_count(limit: u64, totals: Totals) -> Result<(), Refusal>
+    ensures { result ≡ edge_count_rule limit (max totals.parents totals.children) }
 {
-    let total = parents.max(children);
+    let total = totals.parents.max(totals.children);
     if limit < total as u64 {
         return Err(Refusal::EdgeCount {
             actual: total as u64,
@@ -109,7 +117,7 @@ fn judge_edge_count(limit: u64, parents: usize, children: usize) -> Result<(), R
     Ok(())
 }
 
-// 9 to 22. `parents` and `children` are the totals with this row's edges.
+// 9 to 22. The totals count this row's edges too.
 fn judge_counted(
     layout: u64,
     limit: u64,
@@ -117,20 +125,21 @@ fn judge_counted(
     w: usize,
     edges: &[u64],
     at: usize,
-    parents: usize,
-    children: usize,
+    totals: Totals,
 ) -> Result<(), Refusal>
-    requires head_width_in_bounds { w + head_width ≤ length rows.now }
-    requires edges_in_table { at + parents_at rows.now w + children_at rows.now w ≤ length edges.now }
+    requires head_in_table { w + head_width ≤ length rows.now }
+    requires edges_in_table { at + parents_at rows.now w + children_at rows.now w ≤
+        length edges.now }
     ensures { result ≡
         row_rule layout (segment_at rows.now edges.now w at) then
-        edge_count_rule limit (max parents children) }
+        edge_count_rule limit (max totals.parents totals.children) }
 {
     judge_row(layout, rows, w, edges, at)?;
-    judge_edge_count(limit, parents, children)
+    judge_edge_count(limit, totals)
 }
 
 // 8 to 22: a flag says whether the id of its row came before.
+#[tactic(auto, using(crate::proofs::Walk::rows_judged))]
 pub fn judge_rows(
     layout: u64,
     limit: u64,
@@ -139,7 +148,7 @@ pub fn judge_rows(
     edges: &[u64],
     flags: &[u64],
 ) -> Result<(), Refusal>
-    requires row_width_in_bounds { n * row_width ≤ length rows.now }
+    requires rows_in_table { n * row_width ≤ length rows.now }
     requires counts_match { edges_from row_width rows.now n 0 ≡ length edges.now }
     requires twins { Twins (ids rows.now row_width n) flags.now }
     ensures { result ≡ rows_rule layout limit (segments rows.now edges.now n) }
@@ -156,7 +165,8 @@ pub fn judge_rows(
         let c = rows[w + rules::CHILDREN] as usize;
         parents += p;
         children += c;
-        judge_counted(layout, limit, rows, w, edges, at, parents, children)?;
+        let totals = Totals { parents, children };
+        judge_counted(layout, limit, rows, w, edges, at, totals)?;
         at = at + p + c;
     }
     Ok(())

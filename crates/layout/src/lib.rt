@@ -25,16 +25,7 @@ fn lay_out(w: &mut [u64], layout: &Layout)
     let n = layout.rows.len() / rules::ROW;
     let m = layout.places.len() / rules::PLACE;
     let a = n * rules::HELD + layout.edges.len();
-    image::write_image(
-        w,
-        layout.rows,
-        n,
-        layout.edges,
-        layout.places,
-        m,
-        a,
-        a + 3 * n,
-    );
+    image::write_image(w, layout, n, m, a, a + 3 * n);
 }
 
 // 24 to 35 of a layout whose rows have passed 3 to 23 and whose indexes stand in the work area.
@@ -69,17 +60,7 @@ pub fn judge_in(
     let depth = limits.depth;
     let n = layout.rows.len() / rules::ROW;
     let m = layout.places.len() / rules::PLACE;
-    incoming::judge_incoming(
-        w,
-        epoch,
-        size,
-        limits,
-        layout.rows,
-        n,
-        layout.edges,
-        layout.places,
-        m,
-    )?;
+    incoming::judge_incoming(w, epoch, size, limits, layout, n, m)?;
     if n == 0 {
         return Err(Refusal::NoActiveSegments);
     }

@@ -156,8 +156,8 @@ module _ (l : List Row) (x y k p hi : ℕ) (size : length l ≡ k) (asc : Ordere
 -- ---- what `has_pair` says of the place it got
 
 module _ (pairs : List ℕ) (k x y p : ℕ) (size : length pairs ≡ 3 * k) (said : has_pair x y (rows pairs) ≡ (ltb p k && (eqb (at (rows pairs) p).0 x && eqb (at (rows pairs) p).1 y))) where
-  pub has-past : k ≤ p → false ≡ has_pair x y (rows pairs)
-  has-past h = sym (said ∙ rw (le-ltb p k h) refl)
+  pub has_past : k ≤ p → false ≡ has_pair x y (rows pairs)
+  has_past h = sym (said ∙ rw (le-ltb p k h) refl)
 
   pub has_other : p < k → (get_or pairs (3 * p) 0 ≡ x → ⊥) → eqb (get_or pairs (3 * p) 0) x ≡ has_pair x y (rows pairs)
   has_other h n = rw (ne_eqb (get_or pairs (3 * p) 0) x n) (sym (said ∙ rw (lt-ltb p k h, rows_at pairs p (omega arith), ne_eqb (get_or pairs (3 * p) 0) x n) refl))

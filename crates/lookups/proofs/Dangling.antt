@@ -91,3 +91,6 @@ dangling-is index table edges pindex places n m size is psize pis =
     let l : ids pindex 3 m ≡ placed_ids (placements places m) = places-ids pindex places m psize pis ∙ ap (sorted leb) (sym (placement-ids places m)) in
     ap (dangling_from (ids index 3 n)) l
     ∙ dangling-same (ids index 3 n) (ids_of (segments table edges n)) (λ x. has-index index table edges n x size is) (placed_ids (placements places m))
+
+-- what `judge_dangling` rests on
+pub ruleset dangling = (dangling-end-ids, dangling-hit-ids, dangling-next-ids)

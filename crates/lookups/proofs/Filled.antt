@@ -1,7 +1,7 @@
 -- The pairs of all rows: those that stand there, and those of the rows to come, are all of them.
 --     fill_start, fill-next, fill_end     the loop over the rows (`Filling`)
 --     row_in, row_room, pairs-room        a row's words, its edges and its pairs have room
---     pairs-size, index_is                how many pairs there are; sorted, they are the index
+--     pairs_size, index_is                how many pairs there are; sorted, they are the index
 -- By the rest of the table, one row less each turn. Assumes nothing.
 use Prim.Native.Nat.{ℕ, zero, suc, ◌+◌, ◌-◌, ◌*◌, ◌≤◌, ◌<◌}
 use native.Mathlib.Nat.{sub-zero}
@@ -106,10 +106,13 @@ module _ (b : Side) (width : ℕ) (table edges : List ℕ) where
       let e = length_pairs n (i + 1) next (omega arith) in
       omega (arith, a, c, d, e)
 
-  pub pairs-size : (pairs : List ℕ) (n k : ℕ) → edges_from width table n 0 ≡ length edges → sides_from b width table n 0 ≡ k → length pairs ≡ 3 * k
+  pub pairs_size : (pairs : List ℕ) (n k : ℕ) → edges_from width table n 0 ≡ length edges → sides_from b width table n 0 ≡ k → length pairs ≡ 3 * k
       → length pairs ≡ 3 * length (pairs_from n 0 0)
-  pairs-size pairs n k all count size = omega (arith, length_pairs n 0 0 (omega arith))
+  pairs_size pairs n k all count size = omega (arith, length_pairs n 0 0 (omega arith))
 
   pub index_is : (n : ℕ) (x r : List Row) → x ≡ sorted le3 r → r ≡ pairs_from n 0 0 → x ≡ pair_index b width table edges n
   unfolding pair_index
   index_is n x r e f = e ∙ ap (sorted le3) f
+
+-- what `fill_pairs` rests on
+pub ruleset filling = (fill_start, fill-next, fill_end, row_in, row_room, pairs-room)

@@ -58,3 +58,8 @@ module _ (b : Side) (s : Segment) (list : List ℕ) (k : ℕ) (is : side_of b s 
   pub side-pushed : (id r : ℕ) (x₀ x : List Row) → r ≡ k + length list → take (k + length list) x ≡ take k x₀ ++ map (pair_of id) list
       → take r x ≡ take k x₀ ++ map (pair_of id) (side_of b s)
   side-pushed id r x₀ x e f = rw is (ap (λ (t : ℕ). take t x) e ∙ f)
+
+-- what `push_pairs` rests on, and `push_row`
+pub ruleset pushing = (push-start, push-next, push-end)
+
+pub ruleset sides = (side-parents, side-children, side-room, side_after, side-pushed)

@@ -8,7 +8,7 @@ use answers::Refusal;
 
 // Has no row of the index that id?
 pub fn lacks_id(index: &[u64], n: usize, id: u64) -> bool
-    requires n_in_bounds { n * 3 ≤ length index.now }
+    requires rows_in_index { n * 3 ≤ length index.now }
     requires ascends { Ascends (ids index.now 3 n) }
     ensures { result ≡ not (has id (ids index.now 3 n)) }
 {
@@ -16,10 +16,11 @@ pub fn lacks_id(index: &[u64], n: usize, id: u64) -> bool
 }
 
 // 23: the first id of the index of placements that the index of segments lacks.
+#[tactic(auto, using(crate::proofs::Dangling::dangling))]
 pub fn judge_dangling(index: &[u64], n: usize, pindex: &[u64], m: usize) -> Result<(), Refusal>
-    requires n_in_bounds { n * 3 ≤ length index.now }
+    requires rows_in_index { n * 3 ≤ length index.now }
     requires ascends { Ascends (ids index.now 3 n) }
-    requires m_in_bounds { m * 3 ≤ length pindex.now }
+    requires places_in_index { m * 3 ≤ length pindex.now }
     ensures { result ≡ dangling_from (ids index.now 3 n) (ids pindex.now 3 m) }
 {
     for p in 0..m {

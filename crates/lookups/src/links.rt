@@ -7,10 +7,12 @@ ghost use Rattle.lookups.specs.Sides.{pair_of, pairs_of, side_of, side_at, sides
 use types::records::Side;
 
 // The pairs (id, item) for each item of the list, from row k on; the row after them.
+#[tactic(auto, using(crate::proofs::Pushed::pushing))]
 fn push_pairs(pairs: &mut [u64], k: usize, id: u64, list: &[u64]) -> usize
     requires { 3 * (k + length list.now) ≤ length pairs.old }
     ensures value { result ≡ k + length list.now }
-    ensures pairs_after { take (k + length list.now) (rows pairs.new) ≡ take k (rows pairs.old) ++ map (pair_of id) list.now }
+    ensures pushed { take (k + length list.now) (rows pairs.new) ≡
+        take k (rows pairs.old) ++ map (pair_of id) list.now }
 {
     for (j, &item) in list.iter().enumerate() {
         sorts::put3(pairs, k + j, id, item, 0);
@@ -19,6 +21,7 @@ fn push_pairs(pairs: &mut [u64], k: usize, id: u64, list: &[u64]) -> usize
 }
 
 // The pairs of the row that begins at word w and whose edges begin at `at`, from row k of the pairs on; the row after them.
+#[tactic(auto, using(crate::proofs::Pushed::sides))]
 fn push_row(
     pairs: &mut [u64],
     k: usize,
@@ -28,11 +31,13 @@ fn push_row(
     edges: &[u64],
     at: usize,
 ) -> usize
-    requires head_width_in_bounds { w + head_width ≤ length table.now }
-    requires edges_in_table { at + parents_at table.now w + children_at table.now w ≤ length edges.now }
-    requires pairs_fit { 3 * (k + length (side_of side (segment_at table.now edges.now w at))) ≤ length pairs.old }
+    requires head_in_table { w + head_width ≤ length table.now }
+    requires edges_in_table { at + parents_at table.now w + children_at table.now w ≤
+        length edges.now }
+    requires pairs_fit { 3 * (k + length (side_of side (segment_at table.now edges.now w at))) ≤
+        length pairs.old }
     ensures value { result ≡ k + length (side_of side (segment_at table.now edges.now w at)) }
-    ensures pairs_after { take result (rows pairs.new) ≡
+    ensures pushed { take result (rows pairs.new) ≡
         take k (rows pairs.old)
         ++ map (pair_of (get_or table.now w 0)) (side_of side (segment_at table.now edges.now w at)) }
 {
@@ -46,12 +51,15 @@ fn push_row(
 }
 
 // The pairs of all n rows, in input order.
+#[tactic(auto, using(crate::proofs::Filled::filling))]
 fn fill_pairs(pairs: &mut [u64], side: Side, table: &[u64], width: usize, n: usize, edges: &[u64])
-    requires head_width_le_width { head_width ≤ width }
-    requires width_in_bounds { n * width ≤ length table.now }
+    requires width_has_head { head_width ≤ width }
+    requires rows_in_table { n * width ≤ length table.now }
     requires counts_match { edges_from width table.now n 0 ≡ length edges.now }
-    requires pairs_len { length pairs.old ≡ 3 * length (pairs_of (side_of side) (segments_from width table.now edges.now n 0 0)) }
-    ensures { rows pairs.new ≡ pairs_of (side_of side) (segments_from width table.now edges.now n 0 0) }
+    requires pairs_size { length pairs.old ≡
+        3 * length (pairs_of (side_of side) (segments_from width table.now edges.now n 0 0)) }
+    ensures { rows pairs.new ≡
+        pairs_of (side_of side) (segments_from width table.now edges.now n 0 0) }
 {
     let mut at = 0;
     let mut k = 0;
@@ -76,8 +84,8 @@ fn count_at(side: Side, table: &[u64], w: usize) -> usize
 // How many pairs the n rows have, of parents or of children. `total` is how many edge words they have.
 #[tactic(auto, using(crate::proofs::Counted::count_start, crate::proofs::Counted::count_end))]
 pub fn count_pairs(side: Side, table: &[u64], width: usize, n: usize, total: usize) -> usize
-    requires head_width_le_width { head_width ≤ width }
-    requires width_in_bounds { n * width ≤ length table.now }
+    requires width_has_head { head_width ≤ width }
+    requires rows_in_table { n * width ≤ length table.now }
     requires counts_match { edges_from width table.now n 0 ≡ total }
     ensures { result ≡ sides_from side width table.now n 0 }
 {
@@ -89,6 +97,7 @@ pub fn count_pairs(side: Side, table: &[u64], width: usize, n: usize, total: usi
 }
 
 // The index of the k pairs, of parents or of children: three words each.
+#[tactic(auto, using(crate::proofs::Filled::pairs_size))]
 pub fn index_pairs(
     pairs: &mut [u64],
     k: usize,
@@ -98,11 +107,11 @@ pub fn index_pairs(
     n: usize,
     edges: &[u64],
 )
-    requires head_width_le_width { head_width ≤ width }
-    requires width_in_bounds { n * width ≤ length table.now }
+    requires width_has_head { head_width ≤ width }
+    requires rows_in_table { n * width ≤ length table.now }
     requires counts_match { edges_from width table.now n 0 ≡ length edges.now }
     requires pairs_counted { sides_from side width table.now n 0 ≡ k }
-    requires pairs_len { length pairs.old ≡ 3 * k }
+    requires pairs_size { length pairs.old ≡ 3 * k }
     ensures { rows pairs.new ≡ pair_index side width table.now edges.now n }
 {
     fill_pairs(pairs, side, table, width, n, edges);

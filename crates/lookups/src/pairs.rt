@@ -15,8 +15,9 @@ fn is_before(pairs: &[u64], r: usize, x: u64, y: u64) -> bool
 }
 
 // How many of the k pairs stand before (x, y).
+#[tactic(auto, using(crate::proofs::Between::between_start))]
 fn pairs_before(pairs: &[u64], k: usize, x: u64, y: u64) -> usize
-    requires pairs_len { length pairs.now ≡ 3 * k }
+    requires pairs_size { length pairs.now ≡ 3 * k }
     requires ordered { Ordered (rows pairs.now) }
     ensures within { result ≤ k }
     ensures pair_there { has_pair x y (rows pairs.now) ≡
@@ -24,7 +25,7 @@ fn pairs_before(pairs: &[u64], k: usize, x: u64, y: u64) -> usize
 {
     let mut lo = 0;
     let mut hi = k;
-    // A `while`: halving, by hand, since `partition_point` of std takes a slice of rows, and these are rows of three words in a slice of words.
+    // A `while` that halves, not `partition_point`: that is a method of slices, and a row here is three words of one slice.
     while lo < hi {
         let mid = lo + (hi - lo) / 2;
         if is_before(pairs, mid, x, y) {
@@ -37,12 +38,14 @@ fn pairs_before(pairs: &[u64], k: usize, x: u64, y: u64) -> usize
 }
 
 // Is (x, y) one of the k pairs?
+#[tactic(auto, using(crate::proofs::Between::has_past, crate::proofs::Between::has_other))]
 pub fn has_pair(pairs: &[u64], k: usize, x: u64, y: u64) -> bool
-    requires pairs_len { length pairs.now ≡ 3 * k }
+    requires pairs_size { length pairs.now ≡ 3 * k }
     requires ordered { Ordered (rows pairs.now) }
     ensures { result ≡ has_pair x y (rows pairs.now) }
 {
     let p = pairs_before(pairs, k, x, y);
+    // Not one chain of three tests: so written, the proof of the last two doesn't close, since what the first one found stands behind a branch.
     if k <= p {
         return false;
     }

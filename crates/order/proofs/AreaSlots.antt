@@ -1,6 +1,5 @@
 -- The tree of the ready set, lent from the work area as the words 2n..4n and back again:
---     tree_lent, low-lent, least-lent, lent_length     what the lent part is
---     tree_set, tree-clear     what the area is once it is back, with one slot set, or empty
+--     tree-back, tree-clear     what the area is once it is back, with other words, or empty
 --     beside_same, beside-both     all words but the tree's stayed
 -- Assumes nothing.
 use mathlib.Core.Path.{◌≡◌, refl, ◌∙◌}

@@ -1,7 +1,6 @@
 -- The work area is made ready:
---     dep-back     the depths, lent and back as zeros
 --     deg-le, deg-is     what is stored as a node's degree
---     slot_next, slots-done     a turn of the loop over the slots, and its end
+--     slot_next     a turn of the loop over the slots
 --     all-kept, all_laid, all-low, all-zero, all_told     the three steps together
 -- Assumes nothing.
 use mathlib.Core.Path.{◌≡◌, sym, ap, ◌∙◌}
@@ -17,8 +16,7 @@ use Rattle.tree.specs.Tree.{Tree, Low}
 use Rattle.order.specs.Area.{Order}
 use Rattle.order.specs.Graph.{start, judge, run, tab, parents}
 use Rattle.order.specs.Area.{tree_in, view, off_in, edges_in, Laid, Beside, Told}
-use Rattle.order.proofs.RunLaws.{parents-length, slots_length}
-use Rattle.order.proofs.TabLaws.{tab-all}
+use Rattle.order.proofs.RunLaws.{parents-length}
 use Rattle.order.proofs.StartLaws.{begun, begun-slots, begun-zero, slots-more}
 use Rattle.order.proofs.StoreLaws.{kept_at, drop-further}
 use Rattle.order.proofs.AreaLoop.{laid_kept, off-kept, edges-kept}
@@ -57,9 +55,6 @@ slots_of n l k = tab (λ i. cond (eqb (get_or l i 0) 0) i n) k
 pub slot_next : (n i v : ℕ) (w₀ w w' : List ℕ) → Beside n w₀ w → Tree n (tree_in n w) → i < n → v ≡ cond (eqb (get_or w i 0) 0) i n → take i (drop n (tree_in n w)) ≡ slots_of n (part w₀ 0 n) i → drop n (tree_in n w') ≡ set (drop n (tree_in n w)) i v
     → take (i + 1) (drop n (tree_in n w')) ≡ slots_of n (part w₀ 0 n) (i + 1)
 slot_next n i v w₀ w w' b t h e k d = slots-more (λ i. cond (eqb (get_or (part w₀ 0 n) i 0) 0) i n) n (tree_in n w) (tree_in n w') i v t h (rw (deg-read n i w₀ w b h) at e) k d
-
-pub slots-done : (n i : ℕ) (w₀ w₁ w : List ℕ) → Beside n w₀ w₁ → Tree n (tree_in n w) → i ≡ n → take i (drop n (tree_in n w)) ≡ slots_of n (part w₁ 0 n) i → drop n (tree_in n w) ≡ slots_of n (part w₀ 0 n) n
-slots-done n i w₀ w₁ w b t e k = tab-all (λ i. cond (eqb (get_or (part w₁ 0 n) i 0) 0) i n) (drop n (tree_in n w)) i n (slots_length n (tree_in n w) t) e k ∙ ap (λ (l : List ℕ). slots_of n l n) b.degs
 
 -- the area at the start of the loop
 module _ (n m : ℕ) (w₀ w : List ℕ) (eg : part w 0 n ≡ tab (λ i. length (parents (off_in n w₀) (edges_in n m w₀) i)) n) (ep : part w n n ≡ replicate n 0) (er : drop n (tree_in n w) ≡ slots_of n (part w 0 n) n) where

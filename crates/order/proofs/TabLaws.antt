@@ -1,15 +1,15 @@
 -- A list made of a function:
 --     length-tab, get_or-tab, tab-low, tab-same     what stands in it
---     tab-none, tab-more, tab-all     a loop that stores f i at i, one a turn
+--     tab-none, tab-more     a loop that stores f i at i, one a turn
 -- Assumes nothing.
-use mathlib.Core.Path.{◌≡◌, refl, sym, ◌∙◌}
+use mathlib.Core.Path.{◌≡◌, refl, ◌∙◌}
 use mathlib.Core.List.{List, [], ◌∷◌, ◌++◌}
 use Prim.Native.Nat.{zero-le, ℕ, zero, suc, ◌+◌, ◌<◌, ◌≤◌}
 use native.Mathlib.Decide.{ℕ_discrete, dec_lt}
 use native.Mathlib.Numerals.{add-one}
 use native.Mathlib.Omega.{arith}
 use lib.ListN.{length, get_or, set, take, length-append, get_or-append, get_or-eq_default}
-use lib.Seq.{get_or_at, take-suc-set, take_all}
+use lib.Seq.{get_or_at, take-suc-set}
 use Rattle.order.specs.Graph.{tab}
 
 pub length-tab : (f : ℕ → ℕ) (n : ℕ) → length (tab f n) ≡ n
@@ -30,9 +30,6 @@ get_or-tab f (suc n) i h = go (get_or-tab f n i) (ℕ_discrete i n)
 pub tab-more : (f : ℕ → ℕ) (l : List ℕ) (i v : ℕ) → i < length l → v ≡ f i → take i l ≡ tab f i → take (i + 1) (set l i v) ≡ tab f (i + 1)
 unfolding tab
 tab-more f l i v h e t = rw (add-one, take-suc-set l i v h, t, e) refl
-
-pub tab-all : (f : ℕ → ℕ) (l : List ℕ) (i n : ℕ) → length l ≡ n → i ≡ n → take i l ≡ tab f i → l ≡ tab f n
-tab-all f l i n e q t = sym (take_all n l (omega arith)) ∙ rw q at t
 
 pub tab-same : (f g : ℕ → ℕ) (n : ℕ) → ((i : ℕ) → i < n → f i ≡ g i) → tab f n ≡ tab g n
 unfolding tab

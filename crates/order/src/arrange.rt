@@ -12,8 +12,13 @@ use crate::taking::{index, take_node};
 
 // Takes all n nodes, the smallest ready one first, and writes them to the words 4n..5n.
 fn arrange(m: usize, lim: u64, n: usize, w: &mut [u64]) -> Result<(), OrderError>
-    requires { Laid n m w.old × Tree n (tree_in n w.old) × Low n (drop n (tree_in n w.old)) × Low 0 (part w.old n n) }
-    ensures { Told (run n (off_in n w.old) (edges_in n m w.old) lim n [] (view n w.old)) result (order_in n w.new) × (drop (5 * n) w.new ≡ drop (5 * n) w.old) }
+    requires laid { Laid n m w.old }
+    requires tree { Tree n (tree_in n w.old) }
+    requires slots_low { Low n (drop n (tree_in n w.old)) }
+    requires depths_zero { Low 0 (part w.old n n) }
+    ensures told { Told (run n (off_in n w.old) (edges_in n m w.old) lim n [] (view n w.old))
+        result (order_in n w.new) }
+    ensures graph_stays { drop (5 * n) w.new ≡ drop (5 * n) w.old }
 {
     for k in 0..n {
         let x = first_ready(n, w);
@@ -32,7 +37,8 @@ fn arrange(m: usize, lim: u64, n: usize, w: &mut [u64]) -> Result<(), OrderError
 // The whole: of the graph that lies in the area, the answer, and on Whole the order in the words 4n..5n. The words from 5n on are kept.
 pub fn order_in(m: usize, lim: u64, n: usize, w: &mut [u64]) -> Result<(), OrderError>
     requires { Laid n m w.old }
-    ensures { Told (judge n (off_in n w.old) (edges_in n m w.old) lim) result (order_in n w.new) × (drop (5 * n) w.new ≡ drop (5 * n) w.old) }
+    ensures { Told (judge n (off_in n w.old) (edges_in n m w.old) lim) result (order_in n w.new)
+        × (drop (5 * n) w.new ≡ drop (5 * n) w.old) }
 {
     begin_deg(m, n, w);
     begin_dep(n, w);

@@ -11,7 +11,9 @@ use words::clear;
 // How many parents each node waits for at first.
 pub fn begin_deg(m: usize, n: usize, w: &mut [u64])
     requires { Laid n m w.old }
-    ensures { (part w.new 0 n ≡ tab (λ i. length (parents (off_in n w.old) (edges_in n m w.old) i)) n) × (drop n w.new ≡ drop n w.old) }
+    ensures degrees { part w.new 0 n ≡
+        tab (λ i. length (parents (off_in n w.old) (edges_in n m w.old) i)) n }
+    ensures rest_stays { drop n w.new ≡ drop n w.old }
 {
     for i in 0..n {
         let g = 5 * n + 2 * i;
@@ -22,7 +24,9 @@ pub fn begin_deg(m: usize, n: usize, w: &mut [u64])
 // The depths at first.
 pub fn begin_dep(n: usize, w: &mut [u64])
     requires { 4 * n ≤ length w.old }
-    ensures { (part w.new n n ≡ replicate n 0) × (part w.new 0 n ≡ part w.old 0 n) × (drop (2 * n) w.new ≡ drop (2 * n) w.old) }
+    ensures depths { part w.new n n ≡ replicate n 0 }
+    ensures degrees_stay { part w.new 0 n ≡ part w.old 0 n }
+    ensures rest_stays { drop (2 * n) w.new ≡ drop (2 * n) w.old }
 {
     let t = 2 * n;
     clear(&mut w[n..t]);
@@ -38,7 +42,10 @@ fn slot(d: u64, i: usize, n: usize) -> u64
 // The slots at first.
 pub fn begin_slots(n: usize, w: &mut [u64])
     requires { 4 * n ≤ length w.old }
-    ensures { (drop n (tree_in n w.new) ≡ tab (λ i. cond (eqb (get_or (part w.old 0 n) i 0) 0) i n) n) × Tree n (tree_in n w.new) × Beside n w.old w.new }
+    ensures slots { drop n (tree_in n w.new) ≡
+        tab (λ i. cond (eqb (get_or (part w.old 0 n) i 0) 0) i n) n }
+    ensures tree { Tree n (tree_in n w.new) }
+    ensures beside { Beside n w.old w.new }
 {
     clear_slots(n, w);
     for i in 0..n {

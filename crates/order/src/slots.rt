@@ -7,7 +7,9 @@ use tree::{clear_tree, first_slot, put_slot};
 
 // The least ready node, or n.
 pub fn first_ready(n: usize, w: &[u64]) -> u64
-    requires { (4 * n ≤ length w.now) × Tree n (tree_in n w.now) × Low n (drop n (tree_in n w.now)) }
+    requires slots_in_area { 4 * n ≤ length w.now }
+    requires tree { Tree n (tree_in n w.now) }
+    requires slots_low { Low n (drop n (tree_in n w.now)) }
     ensures { result ≡ least (drop n (tree_in n w.now)) n }
 {
     let a = 2 * n;
@@ -18,7 +20,8 @@ pub fn first_ready(n: usize, w: &[u64]) -> u64
 // No node is ready.
 pub fn clear_slots(n: usize, w: &mut [u64])
     requires { 4 * n ≤ length w.old }
-    ensures { Tree n (tree_in n w.new) × Beside n w.old w.new }
+    ensures tree { Tree n (tree_in n w.new) }
+    ensures beside { Beside n w.old w.new }
 {
     let a = 2 * n;
     let t = 4 * n;
@@ -27,8 +30,12 @@ pub fn clear_slots(n: usize, w: &mut [u64])
 
 // Node i's slot becomes v: i makes it ready, n makes it not ready.
 pub fn set_slot(i: usize, v: u64, n: usize, w: &mut [u64])
-    requires { (i < n) × (4 * n ≤ length w.old) × Tree n (tree_in n w.old) }
-    ensures { (drop n (tree_in n w.new) ≡ set (drop n (tree_in n w.old)) i v) × Tree n (tree_in n w.new) × Beside n w.old w.new }
+    requires node { i < n }
+    requires slots_in_area { 4 * n ≤ length w.old }
+    requires tree_before { Tree n (tree_in n w.old) }
+    ensures slot { drop n (tree_in n w.new) ≡ set (drop n (tree_in n w.old)) i v }
+    ensures tree { Tree n (tree_in n w.new) }
+    ensures beside { Beside n w.old w.new }
 {
     let a = 2 * n;
     let t = 4 * n;

@@ -18,8 +18,12 @@ pub fn index(x: u64) -> usize
 
 // Child c gets depth e and one parent less to wait for; with none left it is ready.
 fn reach(c: usize, e: u64, n: usize, w: &mut [u64])
-    requires { (c < n) × (4 * n ≤ length w.old) × Tree n (tree_in n w.old) }
-    ensures { (view n w.new ≡ touch c e (view n w.old)) × Tree n (tree_in n w.new) × (drop (4 * n) w.new ≡ drop (4 * n) w.old) }
+    requires node { c < n }
+    requires slots_in_area { 4 * n ≤ length w.old }
+    requires tree_before { Tree n (tree_in n w.old) }
+    ensures touched { view n w.new ≡ touch c e (view n w.old) }
+    ensures tree { Tree n (tree_in n w.new) }
+    ensures rest_stays { drop (4 * n) w.new ≡ drop (4 * n) w.old }
 {
     w[n + c] = e;
     let g = w[c].saturating_sub(1);
@@ -38,9 +42,16 @@ fn visit_all(
     n: usize,
     w: &mut [u64],
 ) -> Result<(), TooDeep>
-    requires n_bound { (4 * n ≤ from) × (from ≤ to) × (to ≤ length w.old) × (d < n) × Tree n (tree_in n w.old) }
-    requires by_index { (j : ℕ) → from ≤ j → j < to → get_or w.old j 0 < n }
-    ensures { (visit_all d lim (slice from to w.old) (view n w.old) ≡ seen result (view n w.new)) × Tree n (tree_in n w.new) × (drop (4 * n) w.new ≡ drop (4 * n) w.old) }
+    requires behind_slots { 4 * n ≤ from }
+    requires ordered { from ≤ to }
+    requires in_area { to ≤ length w.old }
+    requires depth_below { d < n }
+    requires tree_before { Tree n (tree_in n w.old) }
+    requires nodes { (j : ℕ) → from ≤ j → j < to → get_or w.old j 0 < n }
+    ensures visited { visit_all d lim (slice from to w.old) (view n w.old) ≡
+        seen result (view n w.new) }
+    ensures tree { Tree n (tree_in n w.new) }
+    ensures rest_stays { drop (4 * n) w.new ≡ drop (4 * n) w.old }
 {
     for j in from..to {
         let c = index(w[j]);
@@ -55,8 +66,18 @@ fn visit_all(
 
 // Takes node i and visits its children.
 pub fn take_node(i: usize, m: usize, lim: u64, n: usize, w: &mut [u64]) -> Result<(), TooDeep>
-    requires { Laid n m w.old × (i < n) × (get_or (part w.old n n) i 0 < n) × Tree n (tree_in n w.old) }
-    ensures { (visit_all (get_or (part w.old n n) i 0) lim (children (off_in n w.old) (edges_in n m w.old) i) (unready n i (view n w.old)) ≡ seen result (view n w.new)) × Tree n (tree_in n w.new) × (drop (4 * n) w.new ≡ drop (4 * n) w.old) }
+    requires laid { Laid n m w.old }
+    requires node { i < n }
+    requires depth_below { get_or (part w.old n n) i 0 < n }
+    requires tree_before { Tree n (tree_in n w.old) }
+    ensures visited { visit_all
+        (get_or (part w.old n n) i 0)
+        lim
+        (children (off_in n w.old) (edges_in n m w.old) i)
+        (unready n i (view n w.old))
+        ≡ seen result (view n w.new) }
+    ensures tree { Tree n (tree_in n w.new) }
+    ensures rest_stays { drop (4 * n) w.new ≡ drop (4 * n) w.old }
 {
     let d = w[n + i];
     let g = 5 * n + 2 * i;

@@ -83,6 +83,7 @@ pub(crate) fn has_bad_row(kind: Kind, rows: &[u64], n: usize) -> bool
     ensures { result ≡ any_bad (bad_row kind) (width_of kind) rows.now n 0 }
 {
     let width = kind.width();
+    // Not `any` with a closure: it would need a clause of its own, that its row lies in the table, and is no shorter.
     for i in 0..n {
         if kind.is_bad(rows, i * width) {
             return true;
@@ -106,6 +107,7 @@ pub(crate) fn has_wrong_counts(rows: &[u64], n: usize, len: usize) -> bool
     ensures { result ≡ wrong_counts row_width rows.now n len }
 {
     let mut left = len;
+    // Not `any`: what is left of the edge table goes from row to row, and is asked for at the end.
     for i in 0..n {
         let w = i * rules::ROW;
         let parents = rows[w + rules::PARENTS] as usize;
@@ -123,9 +125,11 @@ pub(crate) fn has_wrong_counts(rows: &[u64], n: usize, len: usize) -> bool
 #[tactic(auto, using(crate::proofs::Counts::counts_over, crate::proofs::Counts::counts_end))]
 pub(crate) fn has_bad_next_or_counts(rows: &[u64], n: usize, len: usize) -> bool
     requires { n * held_width ≤ length rows.now }
-    ensures { result ≡ any_bad bad_next held_width rows.now n 0 || wrong_counts held_width rows.now n len }
+    ensures { result ≡
+        any_bad bad_next held_width rows.now n 0 || wrong_counts held_width rows.now n len }
 {
     let mut left = len;
+    // Not `any`: what is left of the edge table goes from row to row, and is asked for at the end.
     for i in 0..n {
         let w = i * rules::HELD;
         if is_bad_next(rows, w) {

@@ -1,6 +1,6 @@
 -- What the functions' proofs use of the walk: its start, its turn and its ends, over plain lists of words.
 -- Assumes nothing.
-use Prim.Native.Nat.{ℕ, ◌+◌, ◌-◌, ◌*◌, ◌≤◌, ◌<◌}
+use Prim.Native.Nat.{ℕ, ◌+◌, ◌*◌, ◌≤◌, ◌<◌}
 use native.Mathlib.Numerals.{add-one}
 use native.Mathlib.Omega.{arith}
 use mathlib.Core.Path.{◌≡◌, refl, sym, ◌∙◌}
@@ -8,7 +8,7 @@ use mathlib.Core.Bool.{Bool, true, false, not, ◌||◌}
 use mathlib.Core.List.{List, [], ◌∷◌}
 use mir.Syntax.{w64}
 use mir.Val.{Fits}
-use borrow.Author.Tests.{eq-eqb, ne_eqb, lt-ltb, le-ltb, ltb-false}
+use borrow.Author.Tests.{eq-eqb, ne_eqb, ltb-false}
 use lib.ListN.{length, get_or, drop, drop_of_length-le}
 use lib.Seq.{drop-cons}
 use lib.Dec.{eqb, ltb}
@@ -21,7 +21,7 @@ use Rattle.answers.specs.Answer.{Judged, Refused}
 use Rattle.rules.specs.declared.Walked.{Walked}
 use Rattle.rules.specs.declared.Walked.TheVariants.{Tiled, Broken, Short}
 use Rattle.rules.specs.Tiling.{misfit, walk_end, walk_from, walked, tiles, is_tiled, walked_rule, coverage_rule}
-use Rattle.answers.specs.declared.Refusal.TheVariants.{ActiveCoverageEnd, NoActiveSegments}
+use Rattle.answers.specs.declared.Refusal.TheVariants.{NoActiveSegments}
 
 -- ---- a misfit
 
@@ -107,9 +107,9 @@ module _ (l k : List ℕ) (n : ℕ) (len : length l ≡ 3 * n) (s : rows k ≡ s
   unfolding coverage_rule walked
   coverage-walk w r some said v = rw (v, none_rows l n len some, said, s) refl
 
-pub coverage-none : (l : List ℕ) (n : ℕ) (r : Judged) → length l ≡ 3 * n → n ≡ 0 → r ≡ Refused NoActiveSegments → r ≡ coverage_rule (rows l)
+pub coverage_none : (l : List ℕ) (n : ℕ) (r : Judged) → length l ≡ 3 * n → n ≡ 0 → r ≡ Refused NoActiveSegments → r ≡ coverage_rule (rows l)
 unfolding coverage_rule
-coverage-none l n r len z v = by (rows l) (rows-length l n len)
+coverage_none l n r len z v = by (rows l) (rows-length l n len)
   where
     by : (t : List Row) → length t ≡ n → r ≡ coverage_rule t
     by [] e = v

@@ -29,6 +29,7 @@ fn walk_end(a: &[u64], n: usize, i: usize, last: u64) -> Walked
 }
 
 // From range to range, over n rows in order.
+#[tactic(auto, using(crate::proofs::Steps::next_fits))]
 fn walk(a: &[u64], n: usize, first: u64, last: u64) -> Walked
     requires { length a.now ≡ 3 * n }
     ensures { result ≡ walk_from last first (rows a.now) }
@@ -78,6 +79,7 @@ fn judge_walked(walked: Walked) -> Result<(), Refusal>
 }
 
 // 33, 34, 35 over the n Active ranges. The rows are left in some order.
+#[tactic(auto, using(crate::proofs::Steps::coverage_none))]
 pub fn judge_coverage(a: &mut [u64], n: usize) -> Result<(), Refusal>
     requires { length a.old ≡ 3 * n }
     ensures { result ≡ coverage_rule (rows a.old) }

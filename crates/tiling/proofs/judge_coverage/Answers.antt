@@ -1,9 +1,6 @@
 -- `judge_coverage` is `coverage_rule`: no row is 33, else the walk over the sorted rows says 34 or 35.
-use Rattle.tiling.proofs.Steps.{coverage-none, coverage-walk}
+use Rattle.tiling.proofs.Steps.{coverage-walk}
 use Rattle.tiling.proofs.judge_coverage.Goals as goal
-
-pub returns-then-n-eq0 : goal.returns-then-n-eq0
-returns-then-n-eq0 c = search coverage-none
 
 pub returns : goal.returns
 returns c = search coverage-walk

@@ -1,6 +1,5 @@
 -- `walk` is `walk_from`. The invariant: the walk over all rows is the walk from `expected` over the rows to come. The measure is how many those are.
 use mathlib.Core.Path.{◌≡◌}
-use Prim.Native.Nat.{◌-◌}
 use lib.ListN.{drop}
 use Rattle.sorts.specs.Rows.{rows}
 use Rattle.rules.specs.Tiling.{walk_from}

@@ -1,12 +1,6 @@
 -- `has_pair` meets its contract: the row at the place that the search gives is the pair, or no row is.
-use Rattle.lookups.proofs.Between.{has-past, has_other, has_here}
+use Rattle.lookups.proofs.Between.{has_here}
 use Rattle.lookups.proofs.pairs.has_pair.Goals as goal
-
-pub returns-then-k-p : goal.returns-then-k-p
-returns-then-k-p c = search has-past
 
 pub returns-then-pairs-p : goal.returns-then-pairs-p
 returns-then-pairs-p c = search has_here
-
-pub returns-else-pairs-p : goal.returns-else-pairs-p
-returns-else-pairs-p c = search has_other

@@ -11,15 +11,15 @@ use Rattle.order.proofs.begin.begin_slots.Goals as goal
 
 pub loop-i-init : goal.loop-i-init
 loop-i-init c =
-    (zero-le, refl, c.clear_slots.ensures.0, beside_same c.args.n _, tab-none _ (drop c.args.n (tree_in c.args.n c.clear_slots.new.w)))
+    (zero-le, refl, c.clear_slots.ensures.tree, beside_same c.args.n _, tab-none _ (drop c.args.n (tree_in c.args.n c.clear_slots.new.w)))
 
 pub loop-i-preserved : goal.loop-i-preserved
 loop-i-preserved c =
     let h : c.loop-i.i < c.args.n = c.loop-i-test.true in (
       omega arith,
       c.set_slot.auto.w ∙ c.loop-i.invariant.1,
-      c.set_slot.ensures.1,
-      beside-both c.args.n _ c.loop-i.w _ c.loop-i.invariant.3 c.set_slot.ensures.2,
+      c.set_slot.ensures.tree,
+      beside-both c.args.n _ c.loop-i.w _ c.loop-i.invariant.3 c.set_slot.ensures.beside,
       slot_next c.args.n c.loop-i.i c.slot.result c.clear_slots.new.w c.loop-i.w c.set_slot.new.w c.loop-i.invariant.3 c.loop-i.invariant.2
-          h c.slot.ensures c.loop-i.invariant.4 c.set_slot.ensures.0,
+          h c.slot.ensures c.loop-i.invariant.4 c.set_slot.ensures.slot,
     )

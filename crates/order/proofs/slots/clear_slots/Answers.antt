@@ -4,4 +4,5 @@ use Rattle.order.proofs.slots.clear_slots.Goals as goal
 
 pub returns : goal.returns
 returns c =
-    tree-clear c.args.n c.args.w.now c.clear_tree.new.t c.requires c.clear_tree.auto.t c.clear_tree.ensures.0
+    let r = tree-clear c.args.n c.args.w.now c.clear_tree.new.t c.requires c.clear_tree.auto.t c.clear_tree.ensures.0 in
+    record { tree = r.0; beside = r.1 }

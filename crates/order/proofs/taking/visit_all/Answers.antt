@@ -20,7 +20,7 @@ pub overflow_add-n : goal.overflow_add-n
 overflow_add-n c =
     omega (
       arith,
-      node c.args.n _ _ _ _ _ _ c.requires.n_bound.0 c.loop-j.invariant.0 c.loop-j.invariant.4 c.index-c.ensures c.requires.by_index
+      node c.args.n _ _ _ _ _ _ c.requires.behind_slots c.loop-j.invariant.0 c.loop-j.invariant.4 c.index-c.ensures c.requires.nodes
           c.loop-j-test.true,
     )
 
@@ -28,7 +28,7 @@ pub offset_bounds-w-n : goal.offset_bounds-w-n
 offset_bounds-w-n c =
     omega (
       arith,
-      node c.args.n _ _ _ _ _ _ c.requires.n_bound.0 c.loop-j.invariant.0 c.loop-j.invariant.4 c.index-c.ensures c.requires.by_index
+      node c.args.n _ _ _ _ _ _ c.requires.behind_slots c.loop-j.invariant.0 c.loop-j.invariant.4 c.index-c.ensures c.requires.nodes
           c.loop-j-test.true,
     )
 
@@ -36,31 +36,31 @@ pub bounds-w-n : goal.bounds-w-n
 bounds-w-n c =
     omega (
       arith,
-      node c.args.n _ _ _ _ _ _ c.requires.n_bound.0 c.loop-j.invariant.0 c.loop-j.invariant.4 c.index-c.ensures c.requires.by_index
+      node c.args.n _ _ _ _ _ _ c.requires.behind_slots c.loop-j.invariant.0 c.loop-j.invariant.4 c.index-c.ensures c.requires.nodes
           c.loop-j-test.true,
     )
 
 pub returns-then-lim-e : goal.returns-then-lim-e
-returns-then-lim-e c = (
-  c.loop-j.invariant.5
-      ∙ deep-at c.args.n _ _ _ _ _ c.loop-j.w c.loop-j-test.true c.requires.n_bound.2 _ _
-      (child c.args.n _ _ _ _ _ c.requires.n_bound.0 c.loop-j.invariant.0 c.loop-j.invariant.4 c.index-c.ensures)
+returns-then-lim-e c = record {
+  visited = c.loop-j.invariant.5
+      ∙ deep-at c.args.n _ _ _ _ _ c.loop-j.w c.loop-j-test.true c.requires.in_area _ _
+      (child c.args.n _ _ _ _ _ c.requires.behind_slots c.loop-j.invariant.0 c.loop-j.invariant.4 c.index-c.ensures)
       (depth-read c.args.n _ _ _ c.loop-j.w
-      (node c.args.n _ _ _ _ _ _ c.requires.n_bound.0 c.loop-j.invariant.0 c.loop-j.invariant.4 c.index-c.ensures c.requires.by_index
+      (node c.args.n _ _ _ _ _ _ c.requires.behind_slots c.loop-j.invariant.0 c.loop-j.invariant.4 c.index-c.ensures c.requires.nodes
       c.loop-j-test.true)
       c.max-e.ensures)
-      c.if-lim-e.true,
-  c.loop-j.invariant.3,
-  c.loop-j.invariant.4,
-)
+      c.if-lim-e.true;
+  tree = c.loop-j.invariant.3;
+  rest_stays = c.loop-j.invariant.4;
+}
 
 pub reach-requires : goal.reach-requires
-reach-requires c = (
-  node c.args.n _ _ _ _ _ _ c.requires.n_bound.0 c.loop-j.invariant.0 c.loop-j.invariant.4 c.index-c.ensures c.requires.by_index
-      c.loop-j-test.true,
-  omega arith,
-  c.loop-j.invariant.3,
-)
+reach-requires c = record {
+  node = node c.args.n _ _ _ _ _ _ c.requires.behind_slots c.loop-j.invariant.0 c.loop-j.invariant.4 c.index-c.ensures c.requires.nodes
+      c.loop-j-test.true;
+  slots_in_area = omega arith;
+  tree_before = c.loop-j.invariant.3;
+}
 
 pub loop-j-preserved : goal.loop-j-preserved
 loop-j-preserved c =
@@ -68,19 +68,19 @@ loop-j-preserved c =
       omega arith,
       omega arith,
       c.reach.auto.w ∙ c.loop-j.invariant.2,
-      c.reach.ensures.1,
-      c.reach.ensures.2 ∙ c.loop-j.invariant.4,
+      c.reach.ensures.tree,
+      c.reach.ensures.rest_stays ∙ c.loop-j.invariant.4,
       c.loop-j.invariant.5
-          ∙ turn-next c.args.d c.args.lim c.loop-j.j c.args.to c.args.w.now t c.requires.n_bound.2 _ _ c.index-c.result _
-          (child c.args.n _ _ _ _ _ c.requires.n_bound.0 c.loop-j.invariant.0 c.loop-j.invariant.4 c.index-c.ensures)
+          ∙ turn-next c.args.d c.args.lim c.loop-j.j c.args.to c.args.w.now t c.requires.in_area _ _ c.index-c.result _
+          (child c.args.n _ _ _ _ _ c.requires.behind_slots c.loop-j.invariant.0 c.loop-j.invariant.4 c.index-c.ensures)
           (depth-read c.args.n _ _ _ c.loop-j.w
-          (node c.args.n _ _ _ _ _ _ c.requires.n_bound.0 c.loop-j.invariant.0 c.loop-j.invariant.4 c.index-c.ensures c.requires.by_index
+          (node c.args.n _ _ _ _ _ _ c.requires.behind_slots c.loop-j.invariant.0 c.loop-j.invariant.4 c.index-c.ensures c.requires.nodes
           c.loop-j-test.true)
           c.max-e.ensures)
-          c.if-lim-e.false c.reach.ensures.0,
+          c.if-lim-e.false c.reach.ensures.touched,
     )
 
 pub returns : goal.returns
 returns c =
     let e : c.loop-j.j ≡ c.args.to = omega arith in
-    (c.loop-j.invariant.5 ∙ turn-none _ _ _ _ _ _ e, c.loop-j.invariant.3, c.loop-j.invariant.4)
+    record { visited = c.loop-j.invariant.5 ∙ turn-none _ _ _ _ _ _ e; tree = c.loop-j.invariant.3; rest_stays = c.loop-j.invariant.4 }
