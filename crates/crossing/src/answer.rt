@@ -5,7 +5,7 @@ ghost use Rattle.crossing.specs.Told.{refusal_of, ordering_words};
 use answers::{Eligibility, Ordering, Refusal, RefusalWords};
 
 // What an ordering query answers. `outcome`: 0 refused, 1 blocked, 2 eligible, 3 broker-managed; `first`, `second`: how many ids the two
-// lists hold at their front, 51's among them; `read`: parent references read.
+// lists hold at their front, 51's among them; `read`: parent references read. `outcome` is a number, since the struct is the C interface.
 #[repr(C)]
 #[derive(Clone, Copy, PartialEq, Eq, Debug)]
 pub struct OrderingWords {

@@ -5,7 +5,8 @@ ghost use Rattle.crossing.specs.Updates.{reason_number, unchanged_words, updated
 use answers::{DagChangeReason, Refusal, RefusalWords, Updated};
 
 // What an update answers. `outcome`: 0 refused, 1 stale, 2 accepted; `reason`: 0 split, 1 merge, 2 removed, 3 unknown; how many words (added,
-// removed) and pairs (splits, merges) the four lists hold. All but `outcome` and `refusal` are 0 unless accepted.
+// removed) and pairs (splits, merges) the four lists hold. All but `outcome` and `refusal` are 0 unless accepted. `outcome` and `reason` are
+// numbers, since the struct is the C interface.
 #[repr(C)]
 #[derive(Clone, Copy)]
 pub struct UpdatedWords {

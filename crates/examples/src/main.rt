@@ -3,6 +3,7 @@
 #![tactic(auto)]
 
 use answers::Refusal;
+use segment::descriptor::describe;
 use shown::{text, word};
 use std::io;
 use types::limits::DagLimits;
@@ -123,29 +124,39 @@ fn halves(rt: &impl Print) -> io::Result<()> {
     two_ranges(rt, low, high)
 }
 
+// A list of segment 5.
+fn list_of_five(side: Side, list: &[u64]) -> Result<(), Refusal> {
+    segment::list::judge_list(SegmentId(5), side, list)
+}
+
 fn lists(rt: &impl Print) -> io::Result<()> {
     let repeated = [7, 8, 7u64];
     let own = [7, 5, 7u64];
     judged(
         rt,
         b"parents 7,8,7 of 5:",
-        segment::list::judge_list(SegmentId(5), Side::Parents, &repeated),
+        list_of_five(Side::Parents, &repeated),
     )?;
     judged(
         rt,
         b"parents 7,5,7 of 5:",
-        segment::list::judge_list(SegmentId(5), Side::Parents, &own),
+        list_of_five(Side::Parents, &own),
     )?;
     judged(
         rt,
         b"children 7,8 of 5:",
-        segment::list::judge_list(SegmentId(5), Side::Children, &repeated[0..2]),
+        list_of_five(Side::Children, &repeated[0..2]),
     )?;
     judged(
         rt,
         b"children 8,7 of 5, mid-table:",
-        segment::list::judge_list(SegmentId(5), Side::Children, &repeated[1..3]),
+        list_of_five(Side::Children, &repeated[1..3]),
     )
+}
+
+// Segment 1 without children, in a layout of that epoch.
+fn life(layout: u64, state: SegmentState, created: u64, sealed: Optional) -> Result<(), Refusal> {
+    segment::lifecycle::judge_lifecycle(layout, SegmentId(1), state, created, sealed, 0)
 }
 
 fn lifecycles(rt: &impl Print) -> io::Result<()> {
@@ -153,27 +164,27 @@ fn lifecycles(rt: &impl Print) -> io::Result<()> {
     judged(
         rt,
         b"Active, created 3, layout 4:",
-        segment::lifecycle::judge_lifecycle(4, SegmentId(1), SegmentState::Active, 3, ABSENT, 0),
+        life(4, SegmentState::Active, 3, ABSENT),
     )?;
     judged(
         rt,
         b"Active, created 5, layout 4:",
-        segment::lifecycle::judge_lifecycle(4, SegmentId(1), SegmentState::Active, 5, ABSENT, 0),
+        life(4, SegmentState::Active, 5, ABSENT),
     )?;
     judged(
         rt,
         b"Active with a seal:",
-        segment::lifecycle::judge_lifecycle(9, SegmentId(1), SegmentState::Active, 3, at_five, 0),
+        life(9, SegmentState::Active, 3, at_five),
     )?;
     judged(
         rt,
         b"Sealed without one:",
-        segment::lifecycle::judge_lifecycle(9, SegmentId(1), SegmentState::Sealed, 3, ABSENT, 0),
+        life(9, SegmentState::Sealed, 3, ABSENT),
     )?;
     judged(
         rt,
         b"Sealed at 5, layout 4:",
-        segment::lifecycle::judge_lifecycle(4, SegmentId(1), SegmentState::Sealed, 3, at_five, 0),
+        life(4, SegmentState::Sealed, 3, at_five),
     )
 }
 
@@ -206,37 +217,29 @@ fn descriptors(rt: &impl Print) -> io::Result<()> {
     described(
         rt,
         b"a placement with an unread TLS word:",
-        segment::descriptor::describe(info(0, 65535, 1, ABSENT), placed_at(1)),
+        describe(info(0, 65535, 1, ABSENT), placed_at(1)),
     )?;
     described(
         rt,
         b"another segment's placement:",
-        segment::descriptor::describe(info(0, 65535, 1, ABSENT), placed_at(2)),
+        describe(info(0, 65535, 1, ABSENT), placed_at(2)),
     )?;
     described(
         rt,
         b"empty legacy and bad range:",
-        segment::descriptor::describe(info(65536, 0, 1, empty), None),
+        describe(info(65536, 0, 1, empty), None),
     )?;
     described(
         rt,
         b"a range past the last hash:",
-        segment::descriptor::describe(info(0, 65536, 1, ABSENT), None),
+        describe(info(0, 65536, 1, ABSENT), None),
     )?;
-    described(
-        rt,
-        b"state 3:",
-        segment::descriptor::describe(info(0, 65535, 3, ABSENT), None),
-    )?;
-    described(
-        rt,
-        b"a flag of 2:",
-        segment::descriptor::describe(info(0, 65535, 1, odd), None),
-    )?;
+    described(rt, b"state 3:", describe(info(0, 65535, 3, ABSENT), None))?;
+    described(rt, b"a flag of 2:", describe(info(0, 65535, 1, odd), None))?;
     described(
         rt,
         b"a hash of 33 bits:",
-        segment::descriptor::describe(info(4294967296, 65535, 1, ABSENT), None),
+        describe(info(4294967296, 65535, 1, ABSENT), None),
     )
 }
 

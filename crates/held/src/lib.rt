@@ -102,7 +102,7 @@ impl<'a> Held<'a> {
     }
 
     // Where the edges of a row begin: those of the rows before it are counted.
-    pub fn start_of(&self, row: RowIndex) -> usize
+    fn start_of(&self, row: RowIndex) -> usize
         requires { row.0 < self.now.count }
         ensures { result ≡ start_of held_width self.now.rows.now row.0 }
     {

@@ -2,53 +2,65 @@
 ghost use Rattle.std.specs.Prelude.{◌≡◌, ℕ, ◌*◌, ◌<◌, ◌≤◌, true, length, slice_index};
 ghost use Rattle.words.specs.Table.{ids, Ascends, where_is};
 
-// Has row `at` this id?
-fn stands_at(rows: &[u64], width: usize, count: usize, id: u64, at: usize) -> bool
-    requires { (0 < width) × (count * width ≤ length rows.now) × Ascends (ids rows.now width count) }
-    ensures { result ≡ true → Some at ≡ where_is (ids rows.now width count) id }
-{
-    at < count && rows[at * width] == id
+// The first `count` rows of an area, of which each begins with its id. The ids ascend.
+#[derive(Clone, Copy)]
+pub struct Table<'a> {
+    pub rows: &'a [u64],
+    pub width: usize,
+    pub count: usize,
+    ghost wide: { 0 < width },
+    ghost fits: { count * width ≤ length rows.now },
+    ghost ascends: { Ascends (ids rows.now width count) },
 }
 
-// Are the rows before row `at` below this id? Ids ascend, so the last of them tells.
-fn is_past(rows: &[u64], width: usize, count: usize, id: u64, at: usize) -> bool
-    requires { (0 < width) × (count * width ≤ length rows.now) × Ascends (ids rows.now width count)
-        × (at ≤ count) }
-    ensures { result ≡ true → (k : ℕ) → k < at → slice_index (ids rows.now width count) k < id }
-{
-    at == 0 || rows[(at - 1) * width] < id
-}
-
-// Are the rows from row `at` on above it? The first of them tells.
-fn is_short_of(rows: &[u64], width: usize, count: usize, id: u64, at: usize) -> bool
-    requires { (0 < width) × (count * width ≤ length rows.now) × Ascends (ids rows.now width count)
-        × (at ≤ count) }
-    ensures { result ≡ true → (k : ℕ) → at ≤ k → k < count → id < slice_index (ids rows.now width count) k }
-{
-    at == count || id < rows[at * width]
-}
-
-// Does the id lie between two rows, the second of which is row `at`?
-fn lies_before(rows: &[u64], width: usize, count: usize, id: u64, at: usize) -> bool
-    requires { (0 < width) × (count * width ≤ length rows.now) × Ascends (ids rows.now width count) }
-    ensures { result ≡ true → None ≡ where_is (ids rows.now width count) id }
-{
-    at <= count && is_past(rows, width, count, id, at) && is_short_of(rows, width, count, id, at)
-}
-
-// The row that has this id, as `words::find_row` finds it. The hint is any number: row `at` has the id, or none has it and row `at` is the
-// first above it. A hint that is right takes three looks at most.
-pub fn find_near(rows: &[u64], width: usize, count: usize, id: u64, at: usize) -> Option<usize>
-    requires { (0 < width) × (count * width ≤ length rows.now) × Ascends (ids rows.now width count) }
-    ensures { result ≡ where_is (ids rows.now width count) id }
-{
-    if stands_at(rows, width, count, id, at) {
-        return Some(at);
+impl<'a> Table<'a> {
+    // Has row `at` this id?
+    fn stands_at(&self, id: u64, at: usize) -> bool
+        ensures { result ≡ true
+            → Some at ≡ where_is (ids self.now.rows.now self.now.width self.now.count) id }
+    {
+        at < self.count && self.rows[at * self.width] == id
     }
-    if lies_before(rows, width, count, id, at) {
-        return None;
+
+    // Are the rows before row `at` below this id? Ids ascend, so the last of them tells.
+    fn is_past(&self, id: u64, at: usize) -> bool
+        requires { at ≤ self.now.count }
+        ensures { result ≡ true → (k : ℕ) → k < at
+            → slice_index (ids self.now.rows.now self.now.width self.now.count) k < id }
+    {
+        at == 0 || self.rows[(at - 1) * self.width] < id
     }
-    words::find_row(rows, width, count, id)
+
+    // Are the rows from row `at` on above it? The first of them tells.
+    fn is_short_of(&self, id: u64, at: usize) -> bool
+        requires { at ≤ self.now.count }
+        ensures { result ≡ true → (k : ℕ) → at ≤ k → k < self.now.count
+            → id < slice_index (ids self.now.rows.now self.now.width self.now.count) k }
+    {
+        at == self.count || id < self.rows[at * self.width]
+    }
+
+    // Does the id lie between two rows, the second of which is row `at`?
+    fn lies_before(&self, id: u64, at: usize) -> bool
+        ensures { result ≡ true
+            → None ≡ where_is (ids self.now.rows.now self.now.width self.now.count) id }
+    {
+        at <= self.count && self.is_past(id, at) && self.is_short_of(id, at)
+    }
+
+    // The row that has this id, as `words::find_row` finds it. The hint is any number: row `at` has the id, or none has it and row `at` is the
+    // first above it. A hint that is right takes three looks at most.
+    pub fn find_near(&self, id: u64, at: usize) -> Option<usize>
+        ensures { result ≡ where_is (ids self.now.rows.now self.now.width self.now.count) id }
+    {
+        if self.stands_at(id, at) {
+            return Some(at);
+        }
+        if self.lies_before(id, at) {
+            return None;
+        }
+        words::find_row(self.rows, self.width, self.count, id)
+    }
 }
 
 // Of the rows from `from` up to `to`, the first that is not below this id, by halving.
@@ -78,7 +90,8 @@ fn ahead(at: usize, lo: usize, count: usize) -> usize
 }
 
 // The first row from row `at` on that is not below this id: the hint of a caller whose ids ascend, and whose last hint was `at`. It goes ahead by
-// strides that double, so that many ids take a few looks each, and few ids do not take a look at every row.
+// strides that double, so that many ids take a few looks each, and few ids do not take a look at every row. It asks no order of the rows, so it is no
+// method of `Table`.
 pub fn next_hint(rows: &[u64], width: usize, count: usize, id: u64, at: usize) -> usize
     requires { (0 < width) × (count * width ≤ length rows.now) }
 {

@@ -9,16 +9,18 @@ use held::HeldTables;
 use types::lent::{History, Lists};
 use types::records::{OrderingMode, SegmentId};
 
+// The mode is a flag in C's `threshpetal_ordering_eligibility`, whose signature stays.
 fn mode_of(managed: bool) -> OrderingMode
     ensures { result ≡ mode_of managed }
 {
     if managed {
-        return OrderingMode::BrokerManaged;
+        OrderingMode::BrokerManaged
+    } else {
+        OrderingMode::Strict
     }
-    OrderingMode::Strict
 }
 
-// `ordering::ordering_eligibility`; the mode is a flag, the segment its number.
+// `ordering::ordering_eligibility`; the mode is a flag, the segment its number. Eleven parameters: the C signature, which may not change.
 #[unsafe(no_mangle)]
 pub extern "C" fn threshpetal_ordering_eligibility(
     rows: &[u64],

@@ -9,7 +9,7 @@ use types::lent::{Areas, Layout};
 use types::limits::DagLimits;
 
 // `layout::judge_layout_with_limits`: the answer is that of the rule book, and every lent word afterwards is what an answer of the rule
-// book leaves.
+// book leaves. Ten parameters: the C signature, which may not change.
 #[unsafe(no_mangle)]
 pub extern "C" fn threshpetal_judge(
     epoch: u64,

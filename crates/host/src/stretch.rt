@@ -40,7 +40,7 @@ fn find_stretch(tables: &HeldTables, side: Side, segment: u64) -> Stretch
     }
 }
 
-// `ordering::parents_of`, as a stretch.
+// `ordering::parents_of`, as a stretch. Two calls and not one with a side: the C names may not change.
 #[unsafe(no_mangle)]
 pub extern "C" fn threshpetal_parents_of(
     rows: &[u64],

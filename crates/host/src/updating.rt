@@ -8,7 +8,7 @@ use types::lent::{Areas, Changes, Layout};
 use types::limits::DagLimits;
 use types::records::{Session, Update};
 
-// The session is updated where it stands.
+// The session is updated where it stands. Fourteen parameters: the C signature, which may not change.
 #[unsafe(no_mangle)]
 pub extern "C" fn threshpetal_handle_update(
     session: &mut Session,

@@ -130,6 +130,15 @@ pub fn in_room(
     judge(rt, label, epoch, layout, &mut work[..room.work], &mut areas)
 }
 
+// A layout without placements.
+pub fn unplaced<'a>(rows: &'a [u64], edges: &'a [u64]) -> Layout<'a> {
+    Layout {
+        rows,
+        edges,
+        places: &[],
+    }
+}
+
 // In room for three rows and eight edge words.
 pub fn usual(rt: &impl Print, label: &[u8], epoch: u64, layout: &Layout) -> io::Result<()> {
     in_room(rt, label, epoch, layout, Room::new(384, 45, 8, 3))?;
@@ -144,12 +153,7 @@ pub fn linked(
     rows: &[u64],
     edges: &[u64],
 ) -> io::Result<()> {
-    let none = [0u64; 0];
-    let layout = Layout {
-        rows,
-        edges,
-        places: &none,
-    };
+    let layout = unplaced(rows, edges);
     usual(rt, label, epoch, &layout)
 }
 
@@ -168,12 +172,7 @@ pub fn limited(
     rows: &[u64],
     edges: &[u64],
 ) -> io::Result<()> {
-    let none = [0u64; 0];
-    let layout = Layout {
-        rows,
-        edges,
-        places: &none,
-    };
+    let layout = unplaced(rows, edges);
     let mut work = [SPARE; 384];
     let mut held = [SPARE; 45];
     let mut links = [SPARE; 8];

@@ -98,14 +98,9 @@ fn chains(rt: &impl Print) -> io::Result<()> {
 // ---- room: a chain of two needs 128 words of work, 30 of held rows, 2 of held edges and 2 of order
 
 fn two_in(rt: &impl Print, label: &[u8], room: Room) -> io::Result<()> {
-    let none = [0u64; 0];
     let rows = tables::TWO;
     let edges = tables::TWO_LINKS;
-    let layout = Layout {
-        rows: &rows,
-        edges: &edges,
-        places: &none,
-    };
+    let layout = cases::unplaced(&rows, &edges);
     cases::in_room(rt, label, 1, &layout, room)?;
     Ok(())
 }
@@ -121,58 +116,38 @@ fn rooms(rt: &impl Print) -> io::Result<()> {
 // ---- tables that loops fill
 
 fn deepest_chain(rt: &impl Print) -> io::Result<()> {
-    let none = [0u64; 0];
     let mut rows = [0u64; 2827];
     let mut edges = [0u64; 512];
     filled::chain(&mut rows, &mut edges, 256, 2816);
-    let layout = Layout {
-        rows: &rows,
-        edges: &edges,
-        places: &none,
-    };
+    let layout = cases::unplaced(&rows, &edges);
     let room = Room::new(24608, 3855, 512, 257);
     let ends = cases::in_room(rt, b"chain of 257:", 256, &layout, room)?;
     cases::order_from(rt, ends)
 }
 
 fn deeper_chain(rt: &impl Print) -> io::Result<()> {
-    let none = [0u64; 0];
     let mut rows = [0u64; 2838];
     let mut edges = [0u64; 514];
     filled::chain(&mut rows, &mut edges, 257, 2827);
-    let layout = Layout {
-        rows: &rows,
-        edges: &edges,
-        places: &none,
-    };
+    let layout = cases::unplaced(&rows, &edges);
     let room = Room::new(24704, 3870, 514, 258);
     cases::in_room(rt, b"chain of 258:", 257, &layout, room)?;
     Ok(())
 }
 
 fn most_rows(rt: &impl Print) -> io::Result<()> {
-    let none = [0u64; 0];
     let mut rows = [0u64; 45056];
     filled::actives(&mut rows, 4096);
-    let layout = Layout {
-        rows: &rows,
-        edges: &none,
-        places: &none,
-    };
+    let layout = cases::unplaced(&rows, &[]);
     let room = Room::new(131072, 61440, 0, 4096);
     let ends = cases::in_room(rt, b"4096 rows of 16 hashes:", 0, &layout, room)?;
     cases::order_from(rt, ends)
 }
 
 fn too_many_rows(rt: &impl Print) -> io::Result<()> {
-    let none = [0u64; 0];
     let mut rows = [0u64; 45067];
     filled::actives(&mut rows, 4097);
-    let layout = Layout {
-        rows: &rows,
-        edges: &none,
-        places: &none,
-    };
+    let layout = cases::unplaced(&rows, &[]);
     let room = Room::new(131104, 61455, 0, 4097);
     cases::in_room(rt, b"4097 rows:", 0, &layout, room)?;
     Ok(())

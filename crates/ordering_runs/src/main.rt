@@ -112,17 +112,19 @@ fn completing(rt: &impl Print, tables: &HeldTables, done: &[u64]) -> io::Result<
     strict(rt, tables, 4, &history, done)
 }
 
-// Every order of completion, three and three.
-fn first_orders(rt: &impl Print, tables: &HeldTables) -> io::Result<()> {
-    completing(rt, tables, &[1, 2, 3u64])?;
-    completing(rt, tables, &[1, 3, 2u64])?;
-    completing(rt, tables, &[2, 1, 3u64])
-}
-
-fn last_orders(rt: &impl Print, tables: &HeldTables) -> io::Result<()> {
-    completing(rt, tables, &[2, 3, 1u64])?;
-    completing(rt, tables, &[3, 1, 2u64])?;
-    completing(rt, tables, &[3, 2, 1u64])
+// Every order of completion.
+fn all_orders(rt: &impl Print, tables: &HeldTables) -> io::Result<()> {
+    for done in [
+        [1, 2, 3u64],
+        [1, 3, 2u64],
+        [2, 1, 3u64],
+        [2, 3, 1u64],
+        [3, 1, 2u64],
+        [3, 2, 1u64],
+    ] {
+        completing(rt, tables, &done)?;
+    }
+    Ok(())
 }
 
 // Which of the ancestors may itself be read before any is complete.
@@ -198,8 +200,8 @@ fn short_lists(rt: &impl Print, tables: &HeldTables, one: &[u64]) -> io::Result<
     ask_short(rt, tables, one, &mut five, &mut four)
 }
 
-// A segment that names itself as its parent, twice: it is its own ancestor once, and two references are read.
-fn own_ancestor(rt: &impl Print, tables: &HeldTables) -> io::Result<()> {
+// Segment 1, whose parents are the edge words: none of them owned, then all, then all complete.
+fn one_row(rt: &impl Print, tables: &HeldTables) -> io::Result<()> {
     let none = &tables.edges[..0];
     strict(rt, tables, 1, none, none)?;
     strict(rt, tables, 1, tables.edges, none)?;
@@ -207,27 +209,20 @@ fn own_ancestor(rt: &impl Print, tables: &HeldTables) -> io::Result<()> {
     managed(rt, tables, 1, none, none)
 }
 
+// A segment that names itself as its parent, twice: it is its own ancestor once, and two references are read.
 fn run_own(rt: &impl Print) -> io::Result<()> {
     print::line(rt, b"its own parent, twice")?;
     let rows = [1, 0, 65535, 1, 0, 0, 0, 0, 0, 2, 0, 0, 0, 0, 0u64];
     let edges = [1, 1u64];
-    own_ancestor(rt, &front(&rows, &edges, 1, 2))
+    one_row(rt, &front(&rows, &edges, 1, 2))
 }
 
 // A parent without a row is an ancestor like any other.
-fn lost_parent(rt: &impl Print, tables: &HeldTables) -> io::Result<()> {
-    let none = &tables.edges[..0];
-    strict(rt, tables, 1, none, none)?;
-    strict(rt, tables, 1, tables.edges, none)?;
-    strict(rt, tables, 1, tables.edges, tables.edges)?;
-    managed(rt, tables, 1, none, none)
-}
-
 fn run_lost(rt: &impl Print) -> io::Result<()> {
     print::line(rt, b"a parent without a row")?;
     let rows = [1, 0, 65535, 1, 3, 0, 0, 0, 0, 1, 0, 0, 0, 0, 0u64];
     let edges = [7u64];
-    lost_parent(rt, &front(&rows, &edges, 1, 1))
+    one_row(rt, &front(&rows, &edges, 1, 1))
 }
 
 // Ancestors with a row and without one come in one ascending list; 5 and 9 are each other's parents, so each is its own ancestor.
@@ -258,24 +253,10 @@ fn run_mixed(rt: &impl Print) -> io::Result<()> {
 
 // What the worked example says of one segment's edges.
 fn neighbours(rt: &impl Print, tables: &HeldTables, id: u64) -> io::Result<()> {
-    print::judged(
-        rt,
-        b"known",
-        id,
-        ordering::judge_known(tables, SegmentId(id)),
-    )?;
-    print::stretch(
-        rt,
-        b"parents",
-        id,
-        ordering::parents_of(tables, SegmentId(id)),
-    )?;
-    print::stretch(
-        rt,
-        b"children",
-        id,
-        ordering::children_of(tables, SegmentId(id)),
-    )
+    let segment = SegmentId(id);
+    print::judged(rt, b"known", id, ordering::judge_known(tables, segment))?;
+    print::stretch(rt, b"parents", id, ordering::parents_of(tables, segment))?;
+    print::stretch(rt, b"children", id, ordering::children_of(tables, segment))
 }
 
 fn split_refusals(rt: &impl Print, tables: &HeldTables, one: &[u64]) -> io::Result<()> {
@@ -309,8 +290,7 @@ fn run_split(rt: &impl Print) -> io::Result<()> {
 
 fn merge_cases(rt: &impl Print, tables: &HeldTables) -> io::Result<()> {
     at_the_start(rt, tables, &[1, 2, 3u64])?;
-    first_orders(rt, tables)?;
-    last_orders(rt, tables)?;
+    all_orders(rt, tables)?;
     print::line(rt, b"segment 1 was never owned here")?;
     partly_owned(rt, tables, &[3, 2, 3u64], &[3u64])
 }

@@ -1,4 +1,4 @@
--- Marks of pruned roots: what a row found tells (`root_at`, `root_none`), and the loop over the ids (`marked_start`, `marked_next`, `marked-end`).
+-- Pruned roots: what a row found tells (`root_below`, `root_at`, `root_none`).
 -- Assumes nothing.
 use Prim.Native.Nat.{ℕ, ◌+◌, ◌*◌, ◌<◌, ◌≤◌}
 use native.Mathlib.Omega.{arith}

@@ -25,6 +25,7 @@ pub fn list_marked(w: &[u64], ids: MarkedIds, mark: u64, list: &mut [u64]) -> us
     ensures value { result ≡ length (with_mark w.now ids.from ids.marks mark ids.count) }
 {
     let mut len = 0;
+    // a range: an id and its mark stand in two places of one area
     for i in 0..ids.count {
         len = list_one(list, len, w[ids.marks + i], mark, w[ids.from + i]);
     }

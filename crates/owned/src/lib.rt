@@ -8,6 +8,7 @@ pub mod by_mark;
 pub mod marks;
 pub mod roots;
 
+// Marks are words and no enum: they stand in the lent work area, and the laws of `Marked` and `with_mark` speak of its words.
 // Where ids and their marks stand in the work area: `count` ids from word `from` on, and a mark for each from word `marks` on, behind them.
 #[derive(Clone, Copy)]
 pub struct MarkedIds {

@@ -5,6 +5,7 @@ ghost use Rattle.owned.specs.Marks.{Marked, root_row, root_of};
 
 use crate::MarkedIds;
 use held::Held;
+use hints::near::Table;
 use types::records::RowIndex;
 
 fn is_root_row(held: &Held, row: RowIndex) -> bool
@@ -19,7 +20,12 @@ fn is_root_row(held: &Held, row: RowIndex) -> bool
 pub fn is_root(held: &Held, x: u64, at: usize) -> bool
     ensures { result ≡ root_of held.now.rows.now held.now.count x }
 {
-    match hints::near::find_near(held.rows, rules::HELD, held.count, x, at) {
+    let table = Table {
+        rows: held.rows,
+        width: rules::HELD,
+        count: held.count,
+    };
+    match table.find_near(x, at) {
         Some(row) => is_root_row(held, RowIndex(row)),
         None => false,
     }
@@ -29,10 +35,7 @@ pub fn is_root(held: &Held, x: u64, at: usize) -> bool
 fn root_mark(held: &Held, x: u64, at: usize) -> u64
     ensures { result ≡ tick (root_of held.now.rows.now held.now.count x) }
 {
-    if is_root(held, x, at) {
-        return 1;
-    }
-    0
+    u64::from(is_root(held, x, at))
 }
 
 // A mark for each of the ids. They ascend as the rows do, so both are passed once.
@@ -42,6 +45,7 @@ pub fn mark_roots(held: &Held, w: &mut [u64], ids: MarkedIds)
         ids.count w.old w.new }
 {
     let mut at = 0;
+    // a range: ids are read and marks written in one area
     for i in 0..ids.count {
         let x = w[ids.from + i];
         at = hints::near::next_hint(held.rows, rules::HELD, held.count, x, at);

@@ -20,14 +20,14 @@ unfolding grown
 no_digit n b h = rw h refl
 
 -- ten times the number is above 64 bits
-pub product-out : (n b : ℕ) → is_digit b ≡ true → (n * 10 < 2 ^ 64 → ⊥) → None ≡ grown n b
+pub product_out : (n b : ℕ) → is_digit b ≡ true → (n * 10 < 2 ^ 64 → ⊥) → None ≡ grown n b
 unfolding grown
-product-out n b h l = rw (h, le-ltb (n * 10 + (b - 48)) (2 ^ 64) (omega arith)) refl
+product_out n b h l = rw (h, le-ltb (n * 10 + (b - 48)) (2 ^ 64) (omega arith)) refl
 
-pub sum-in : (n b m d : ℕ) (r : Option ℕ) → is_digit b ≡ true → m ≡ n * 10 → d ≡ b - 48 → SomeIff r (m + d < 2 ^ 64) (m + d) → r ≡ grown n b
+pub sum_in : (n b m d : ℕ) (r : Option ℕ) → is_digit b ≡ true → m ≡ n * 10 → d ≡ b - 48 → SomeIff r (m + d < 2 ^ 64) (m + d) → r ≡ grown n b
 unfolding grown
-sum-in n b m d None h e f s = rw (h, le-ltb (n * 10 + (b - 48)) (2 ^ 64) (let g : m + d < 2 ^ 64 → ⊥ = s in omega arith)) refl
-sum-in n b m d (Some v) h e f s =
+sum_in n b m d None h e f s = rw (h, le-ltb (n * 10 + (b - 48)) (2 ^ 64) (let g : m + d < 2 ^ 64 → ⊥ = s in omega arith)) refl
+sum_in n b m d (Some v) h e f s =
     let z : v ≡ n * 10 + (b - 48) = omega (arith, s.1) in
     rw (h, lt-ltb (n * 10 + (b - 48)) (2 ^ 64) (omega (arith, s.0)), z) refl
 

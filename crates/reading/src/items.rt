@@ -8,6 +8,7 @@ pub fn count_items(field: &[u8], room: usize) -> Option<usize>
     ensures { result ≡ listed (numbers_of room (items_of field.now)) }
 {
     let mut from = 0;
+    // a range, since `room` bounds how many items are looked at
     for n in 0..room {
         let to = spans::end_of(field, from, b',');
         numbers::read_number(&field[from..to])?;
@@ -24,6 +25,7 @@ pub fn write_items(field: &[u8], words: &mut [u64])
     ensures { words.new ≡ filled words.old (front (length words.old) (items_of field.now)) }
 {
     let mut from = 0;
+    // a range: the law of `filled` counts the words that are written
     for n in 0..words.len() {
         let to = spans::end_of(field, from, b',');
         let Some(v) = numbers::read_number(&field[from..to]) else {

@@ -3,6 +3,7 @@ ghost use Rattle.std.specs.Prelude.{◌≡◌};
 ghost use Rattle.reading.specs.Numbers.{grown, number_of, code_of, plain_code, minus_code};
 
 // The number with one digit more.
+#[tactic(auto, using(crate::proofs::Digits::no_digit, crate::proofs::Digits::product_out, crate::proofs::Digits::sum_in))]
 fn with_digit(number: u64, b: u8) -> Option<u64>
     ensures { result ≡ grown number b }
 {

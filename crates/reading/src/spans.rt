@@ -6,6 +6,7 @@ ghost use Rattle.reading.specs.Fields.{up_to, field};
 pub fn end_of(text: &[u8], from: usize, separator: u8) -> usize
     ensures { result ≡ from + up_to separator (drop from text.now) }
 {
+    // a range, since `from` may lie past the end of the text, where a slice has no beginning
     for i in from..text.len() {
         if text[i] == separator {
             return i;
@@ -19,6 +20,7 @@ pub fn field_at(line: &[u8], number: usize) -> &[u8]
     ensures { result.now ≡ field line.now number }
 {
     let mut from = 0;
+    // a range: a field that is not there is the empty end of the line, which `split` does not answer
     for _ in 0..number {
         let to = end_of(line, from, b' ');
         if to == line.len() {

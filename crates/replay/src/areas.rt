@@ -1,35 +1,29 @@
 // Areas that are lent to a call, and what of them is not as expected afterwards.
-ghost use Rattle.std.specs.Prelude.{◌≤◌, ◌≡◌, length};
+ghost use Rattle.std.specs.Prelude.{◌≤◌};
 
+use crate::line;
 use crate::line::{Part, ROOM};
-use crate::{line, names};
+use crate::names::What;
 use answers::Refusal;
 
-// The first thing that is not as expected, by its number in names.rt, 0 where all is as expected. Place 0 is its length, the words count from 1.
+// The first thing that is not as expected. Place 0 is its length, the words count from 1.
 #[derive(Clone, Copy)]
 pub struct Difference {
-    pub what: usize,
+    pub what: What,
     pub at: usize,
     pub found: u64,
     pub expected: u64,
 }
 
-pub const NONE: Difference = Difference {
-    what: 0,
-    at: 0,
-    found: 0,
-    expected: 0,
-};
-
 // The line says no call.
 pub const UNREAD: Difference = Difference {
-    what: names::UNREAD,
+    what: What::Unread,
     at: 0,
     found: 0,
     expected: 0,
 };
 
-pub fn other_length(what: usize, found: usize, expected: usize) -> Difference {
+pub fn other_length(what: What, found: usize, expected: usize) -> Difference {
     Difference {
         what,
         at: 0,
@@ -38,36 +32,24 @@ pub fn other_length(what: usize, found: usize, expected: usize) -> Difference {
     }
 }
 
-// The words of part k, and what it is filled with up to the end of the array.
-pub fn lay(area: &mut [u64; 2048], line: &[u64], first: usize, k: usize)
-    requires { 2048 ≡ length area.old }
-    ensures { 2048 ≡ length area.new }
-{
+// The words of part k, and what it is filled with up to the end of the area.
+pub fn lay(area: &mut [u64], line: &[u64], first: usize, k: usize) {
     let p = line::part_of(line, first, k);
-    for i in 0..ROOM {
-        area[i] = line::word_of(line, p, i);
+    for (i, word) in area.iter_mut().enumerate() {
+        *word = line::word_of(line, p, i);
     }
 }
 
 // Parts k to k + 3.
 pub fn lay_four(
-    a: &mut [u64; 2048],
-    b: &mut [u64; 2048],
-    c: &mut [u64; 2048],
-    d: &mut [u64; 2048],
+    a: &mut [u64],
+    b: &mut [u64],
+    c: &mut [u64],
+    d: &mut [u64],
     line: &[u64],
     first: usize,
     k: usize,
-)
-    requires a_whole { 2048 ≡ length a.old }
-    requires b_whole { 2048 ≡ length b.old }
-    requires c_whole { 2048 ≡ length c.old }
-    requires d_whole { 2048 ≡ length d.old }
-    ensures a_stays_whole { 2048 ≡ length a.new }
-    ensures b_stays_whole { 2048 ≡ length b.new }
-    ensures c_stays_whole { 2048 ≡ length c.new }
-    ensures d_stays_whole { 2048 ≡ length d.new }
-{
+) {
     lay(a, line, first, k);
     lay(b, line, first, line::further(k, 1));
     lay(c, line, first, line::further(k, 2));
@@ -83,123 +65,66 @@ pub fn length_of(line: &[u64], first: usize, k: usize) -> usize
 }
 
 // Every word of the area is the part's.
-fn compare_words(
-    what: usize,
-    area: &[u64; 2048],
-    line: &[u64],
-    p: Part,
-    length: usize,
-) -> Difference
-    requires { length ≤ 2048 }
-{
-    for i in 0..length {
+fn compare_words(what: What, area: &[u64], line: &[u64], p: Part) -> Result<(), Difference> {
+    for (i, &found) in area.iter().enumerate() {
         let expected = line::word_of(line, p, i);
-        let found = area[i];
         if found != expected {
-            return Difference {
+            return Err(Difference {
                 what,
                 at: i + 1,
                 found,
                 expected,
-            };
+            });
         }
     }
-    NONE
+    Ok(())
 }
 
-// One difference more to look for: an area that was part `before` is part `after` now, in its length and in every word.
+// An area that was part `before` is part `after` now, in its length and in every word.
 pub fn compare(
-    d: Difference,
-    what: usize,
+    what: What,
     area: &[u64; 2048],
     line: &[u64],
     first: usize,
     before: usize,
     after: usize,
-) -> Difference {
-    if d.what != 0 {
-        return d;
-    }
+) -> Result<(), Difference> {
     let length = length_of(line, first, before);
     let p = line::part_of(line, first, after);
     if p.length != length {
-        return other_length(what, length, p.length);
+        return Err(other_length(what, length, p.length));
     }
-    compare_words(what, area, line, p, length)
+    compare_words(what, &area[..length], line, p)
 }
 
 // The same of words that are no area: those of an answer, which stand in the line as single numbers from `at` on.
 pub fn compare_numbers(
-    d: Difference,
-    what: usize,
+    what: What,
     words: &[u64],
     line: &[u64],
     at: usize,
-) -> Difference {
-    if d.what != 0 {
-        return d;
-    }
-    for i in 0..words.len() {
+) -> Result<(), Difference> {
+    for (i, &found) in words.iter().enumerate() {
         let expected = line::number_at(line, line::further(at, i as u64));
-        let found = words[i];
         if found != expected {
-            return Difference {
+            return Err(Difference {
                 what,
                 at: i + 1,
                 found,
                 expected,
-            };
+            });
         }
     }
-    d
+    Ok(())
 }
 
 // A judgement: its number, 0 where accepted, and its values.
-pub fn compare_refusal(judged: Result<(), Refusal>, line: &[u64], at: usize) -> Difference {
+pub fn compare_refusal(
+    judged: Result<(), Refusal>,
+    line: &[u64],
+    at: usize,
+) -> Result<(), Difference> {
     let r = crossing::answer::refusal_of(judged);
     let words = [r.number, r.a, r.b, r.c, r.d];
-    compare_numbers(NONE, names::ANSWER, &words, line, at)
-}
-
-// Four areas, which follow each other as parts and as names.
-pub fn compare_four(
-    found: Difference,
-    what: usize,
-    a: &[u64; 2048],
-    b: &[u64; 2048],
-    c: &[u64; 2048],
-    d: &[u64; 2048],
-    line: &[u64],
-    first: usize,
-    before: usize,
-    after: usize,
-) -> Difference {
-    let f = compare(found, what, a, line, first, before, after);
-    let f = compare(
-        f,
-        line::further(what, 1),
-        b,
-        line,
-        first,
-        line::further(before, 1),
-        line::further(after, 1),
-    );
-    let f = compare(
-        f,
-        line::further(what, 2),
-        c,
-        line,
-        first,
-        line::further(before, 2),
-        line::further(after, 2),
-    );
-    compare(
-        f,
-        line::further(what, 3),
-        d,
-        line,
-        first,
-        line::further(before, 3),
-        line::further(after, 3),
-    )
+    compare_numbers(What::Answer, &words, line, at)
 }

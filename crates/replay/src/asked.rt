@@ -2,7 +2,8 @@
 // lists and references read; the tables (held rows, held edges, history, completed), the areas before the call (work, first list, second list),
 // and the same after it.
 use crate::areas::Difference;
-use crate::{areas, line, names};
+use crate::names::What;
+use crate::{areas, line};
 use answers::Ordering;
 use held::HeldTables;
 use types::lent::{History, Lists};
@@ -13,13 +14,13 @@ const ANSWER: usize = 5;
 const PARTS: usize = 14;
 
 fn mode_of(word: u64) -> OrderingMode {
-    if word == 0 {
-        return OrderingMode::Strict;
+    match word {
+        0 => OrderingMode::Strict,
+        _ => OrderingMode::BrokerManaged,
     }
-    OrderingMode::BrokerManaged
 }
 
-fn compare_answer(answer: Ordering, line: &[u64]) -> Difference {
+fn compare_answer(answer: Ordering, line: &[u64]) -> Result<(), Difference> {
     let o = crossing::answer::ordering_words(answer);
     let words = [
         o.outcome,
@@ -32,11 +33,11 @@ fn compare_answer(answer: Ordering, line: &[u64]) -> Difference {
         o.second as u64,
         o.read,
     ];
-    areas::compare_numbers(areas::NONE, names::ANSWER, &words, line, ANSWER)
+    areas::compare_numbers(What::Answer, &words, line, ANSWER)
 }
 
 // The call, and what it answers by value.
-fn ask(line: &[u64], work: &mut [u64], lists: &mut Lists) -> Difference {
+fn ask(line: &[u64], work: &mut [u64], lists: &mut Lists) -> Result<(), Difference> {
     let tables = HeldTables {
         rows: line::table(line, PARTS, 0),
         edges: line::table(line, PARTS, 1),
@@ -58,9 +59,9 @@ fn ask(line: &[u64], work: &mut [u64], lists: &mut Lists) -> Difference {
     compare_answer(answer, line)
 }
 
-pub fn replay(line: &[u64]) -> Difference {
+pub fn replay(line: &[u64]) -> Result<(), Difference> {
     if !line::is_whole(line, PARTS, 4, 10) {
-        return areas::UNREAD;
+        return Err(areas::UNREAD);
     }
     let mut work = [0u64; 2048];
     let mut first = [0u64; 2048];
@@ -75,8 +76,8 @@ pub fn replay(line: &[u64]) -> Difference {
         first: &mut first[..f],
         second: &mut second[..s],
     };
-    let d = ask(line, &mut work[..w], &mut lists);
-    let d = areas::compare(d, names::WORK, &work, line, PARTS, 4, 7);
-    let d = areas::compare(d, names::FIRST, &first, line, PARTS, 5, 8);
-    areas::compare(d, names::SECOND, &second, line, PARTS, 6, 9)
+    ask(line, &mut work[..w], &mut lists)?;
+    areas::compare(What::Work, &work, line, PARTS, 4, 7)?;
+    areas::compare(What::First, &first, line, PARTS, 5, 8)?;
+    areas::compare(What::Second, &second, line, PARTS, 6, 9)
 }

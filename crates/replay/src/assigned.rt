@@ -38,9 +38,9 @@ fn records_of(line: &[u64]) -> [Assigned; RECORDS] {
     records
 }
 
-pub fn replay(line: &[u64]) -> Difference {
+pub fn replay(line: &[u64]) -> Result<(), Difference> {
     if !line::is_whole(line, PARTS, 2, 2) {
-        return areas::UNREAD;
+        return Err(areas::UNREAD);
     }
     let records = records_of(line);
     let len = RECORDS.min(line::part_of(line, PARTS, 0).length / 3);

@@ -2,7 +2,8 @@
 // values, and the 15 words of the held row, all 0 where it is refused.
 use crate::areas::Difference;
 use crate::line::number_at;
-use crate::{areas, line, names};
+use crate::names::What;
+use crate::{areas, line};
 use answers::{Refusal, RefusalWords};
 use types::records::{Broker, Optional, SegmentDescriptor, SegmentId, SegmentInfo};
 
@@ -42,15 +43,15 @@ fn placed_of(line: &[u64]) -> Option<Broker> {
     })
 }
 
-fn compare_refused(r: Refusal, line: &[u64]) -> Difference {
+fn compare_refused(r: Refusal, line: &[u64]) -> Result<(), Difference> {
     let r = RefusalWords::from(r);
     let words = [
         r.number, r.a, r.b, r.c, r.d, 0, 0, 0, 0, 0, 0, 0, 0, 0, 0, 0, 0, 0, 0, 0,
     ];
-    areas::compare_numbers(areas::NONE, names::ANSWER, &words, line, ANSWER)
+    areas::compare_numbers(What::Answer, &words, line, ANSWER)
 }
 
-fn compare_descriptor(s: SegmentDescriptor, line: &[u64]) -> Difference {
+fn compare_descriptor(s: SegmentDescriptor, line: &[u64]) -> Result<(), Difference> {
     let i = s.info;
     let words = [
         0,
@@ -74,12 +75,12 @@ fn compare_descriptor(s: SegmentDescriptor, line: &[u64]) -> Difference {
         s.tls.flag,
         s.tls.word,
     ];
-    areas::compare_numbers(areas::NONE, names::ANSWER, &words, line, ANSWER)
+    areas::compare_numbers(What::Answer, &words, line, ANSWER)
 }
 
-pub fn replay(line: &[u64]) -> Difference {
+pub fn replay(line: &[u64]) -> Result<(), Difference> {
     if line.len() != NUMBERS {
-        return areas::UNREAD;
+        return Err(areas::UNREAD);
     }
     match segment::descriptor::describe(info_of(line), placed_of(line)) {
         Err(r) => compare_refused(r, line),

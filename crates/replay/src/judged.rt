@@ -30,7 +30,7 @@ pub fn layout_in<'a>(line: &'a [u64], first: usize) -> Layout<'a> {
 }
 
 // The call, and what it answers by value.
-pub fn ask(line: &[u64], work: &mut [u64], areas: &mut Areas) -> Difference {
+pub fn ask(line: &[u64], work: &mut [u64], areas: &mut Areas) -> Result<(), Difference> {
     let judged = layout::judge_layout_with_limits(
         line::number_at(line, 1),
         line::number_at(line, 2),

@@ -1,50 +1,69 @@
 // The key of a case: the number of the refusal that is expected, or a number above all of them for an answer that refuses nothing; and how many
 // cases of each key were equal.
 use crate::line;
-use crate::names::{answer_name, say, text};
+use crate::names::{say, text};
 use std::io;
 
 const ACCEPTED: usize = 64;
 
+const STALE: usize = 65;
+
+const SPLIT: usize = 66;
+
+const MERGE: usize = 67;
+
+const REMOVED: usize = 68;
+
+const UNKNOWN: usize = 69;
+
+const BLOCKED: usize = 70;
+
+const ELIGIBLE: usize = 71;
+
+const MANAGED: usize = 72;
+
 // Number 0 is this key.
 fn refusal_key(number: u64, other: usize) -> usize {
-    if number == 0 {
-        return other;
+    match number {
+        0 => other,
+        n if n < ACCEPTED as u64 => n as usize,
+        _ => 0,
     }
-    if number < 64 {
-        return number as usize;
-    }
-    0
 }
 
-// Stale, or by the reason: split, merge, removed, unknown.
+// Stale, or by the reason. Outcome and reason are numbers, as a line has them: those that C is told (`crossing`).
 fn updated_key(outcome: u64, number: u64, reason: u64) -> usize {
-    match outcome {
-        0 => refusal_key(number, 0),
-        1 => 65,
-        _ => match reason {
-            0 => 66,
-            1 => 67,
-            2 => 68,
-            _ => 69,
-        },
+    match (outcome, reason) {
+        (0, _) => refusal_key(number, 0),
+        (1, _) => STALE,
+        (_, 0) => SPLIT,
+        (_, 1) => MERGE,
+        (_, 2) => REMOVED,
+        _ => UNKNOWN,
     }
 }
 
 fn ordering_key(outcome: u64, number: u64) -> usize {
     match outcome {
         0 => refusal_key(number, 0),
-        1 => 70,
-        2 => 71,
-        _ => 72,
+        1 => BLOCKED,
+        2 => ELIGIBLE,
+        _ => MANAGED,
     }
 }
 
 fn key_name(rt: &impl Print, key: usize) -> io::Result<()> {
-    if key < ACCEPTED {
-        say(rt, b"", key as u64)
-    } else {
-        answer_name(rt, key - ACCEPTED)
+    match key {
+        ACCEPTED => text(rt, b"accepted       "),
+        STALE => text(rt, b"stale          "),
+        SPLIT => text(rt, b"split          "),
+        MERGE => text(rt, b"merge          "),
+        REMOVED => text(rt, b"removed        "),
+        UNKNOWN => text(rt, b"unknown        "),
+        BLOCKED => text(rt, b"blocked        "),
+        ELIGIBLE => text(rt, b"eligible       "),
+        MANAGED => text(rt, b"broker-managed "),
+        number => say(rt, b"", number as u64),
     }
 }
 
@@ -68,9 +87,7 @@ pub fn key_of(line: &[u64]) -> usize {
 // One more of that key.
 pub fn count(counts: &mut [u64], key: usize) {
     if key < counts.len() {
-        if counts[key] < u64::MAX {
-            counts[key] += 1;
-        }
+        counts[key] = counts[key].saturating_add(1);
     }
 }
 

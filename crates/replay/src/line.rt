@@ -32,10 +32,7 @@ pub fn half_of(word: u64) -> u32 {
 
 // A place that many numbers further, which stays in 64 bits.
 pub fn further(at: usize, more: u64) -> usize {
-    if more <= (usize::MAX - at) as u64 {
-        return at + more as usize;
-    }
-    usize::MAX
+    at.saturating_add(more as usize)
 }
 
 fn part_at(line: &[u64], at: usize) -> Part {
@@ -70,19 +67,14 @@ pub fn word_of(line: &[u64], p: Part, i: usize) -> u64 {
 
 // All words of a table are said.
 fn is_good(p: Part, is_table: bool) -> bool {
-    if p.length > ROOM {
-        return false;
-    }
     let end = further(p.from, p.length as u64);
-    if is_table {
-        return p.end == end;
-    }
-    p.end <= end
+    p.length <= ROOM && (p.end == end || !is_table && p.end < end)
 }
 
 // The line ends after that many parts, of which the first are tables.
 pub fn is_whole(line: &[u64], first: usize, tables: usize, parts: usize) -> bool {
     let mut next = first;
+    // a loop, and no `all`: each part says where the next begins
     for i in 0..parts {
         let p = part_at(line, next);
         if !is_good(p, i < tables) {
@@ -98,10 +90,7 @@ pub fn table<'a>(line: &'a [u64], first: usize, k: usize) -> &'a [u64] {
     let p = part_of(line, first, k);
     let from = p.from;
     let end = p.end;
-    if end > line.len() {
-        return &line[..0];
-    }
-    if from > end {
+    if end > line.len() || from > end {
         return &line[..0];
     }
     &line[from..end]

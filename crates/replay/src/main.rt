@@ -22,7 +22,7 @@ mod stretches;
 mod updated;
 
 // The call that the line's first number names.
-fn replay(line: &[u64]) -> Difference {
+fn replay(line: &[u64]) -> Result<(), Difference> {
     let call = line::number_at(line, 0);
     match call {
         1 => lent::replay(line, judged::PARTS, 11, 7),
@@ -31,7 +31,7 @@ fn replay(line: &[u64]) -> Difference {
         4 => stretches::replay(line),
         5 => assigned::replay(line),
         6 => described::replay(line),
-        _ => areas::UNREAD,
+        _ => Err(areas::UNREAD),
     }
 }
 
@@ -48,16 +48,16 @@ fn show_difference(rt: &impl Print, lines: u64, d: Difference) -> io::Result<()>
 
 // A whole line.
 fn take_line(rt: &impl Print, r: Reader, line: &[u64], counts: &mut [u64]) -> io::Result<Reader> {
-    let mut d = areas::UNREAD;
-    if !r.bad {
-        d = replay(line);
+    let replayed = if r.bad {
+        Err(areas::UNREAD)
+    } else {
+        replay(line)
+    };
+    let next = reader::next_line(r, replayed.is_err());
+    match replayed {
+        Ok(()) => keys::count(counts, keys::key_of(line)),
+        Err(d) => show_difference(rt, next.lines, d)?,
     }
-    let next = reader::next_line(r, d.what != 0);
-    if d.what != 0 {
-        show_difference(rt, next.lines, d)?;
-        return Ok(next);
-    }
-    keys::count(counts, keys::key_of(line));
     Ok(next)
 }
 

@@ -24,33 +24,20 @@ pub fn start() -> Reader {
     }
 }
 
-// One more where it is so; no run reads as many lines as 64 bits can count.
-fn one_more(n: u64, so: bool) -> u64 {
-    if so {
-        if n < u64::MAX {
-            return n + 1;
-        }
-    }
-    n
-}
-
-// The next line begins.
+// The next line begins. No run reads as many lines as 64 bits can count.
 pub fn next_line(r: Reader, differs: bool) -> Reader {
     Reader {
         bytes: 0,
         words: 0,
         bad: false,
-        lines: one_more(r.lines, true),
-        differ: one_more(r.differ, differs),
+        lines: r.lines.saturating_add(1),
+        differ: r.differ.saturating_add(u64::from(differs)),
     }
 }
 
 // The first words of the line, or all of them.
 pub fn first<'a>(line: &'a [u64], n: usize) -> &'a [u64] {
-    if n <= line.len() {
-        return &line[0..n];
-    }
-    line
+    &line[..n.min(line.len())]
 }
 
 fn spoilt(r: Reader) -> Reader {

@@ -2,10 +2,11 @@
 // code, message, three names), the four limits; outcome, number and values, epoch, the four lengths, reason, handover; the session after it; the
 // tables (rows, edges, placements), the areas before the call (work, held rows, held edges, order, added, removed, splits, merges), and the same
 // after it.
+use crate::areas;
 use crate::areas::Difference;
 use crate::judged::{layout_in, limits_at};
 use crate::line::{further, half_of, number_at};
-use crate::{areas, names};
+use crate::names::What;
 use answers::{Refusal, Updated};
 use types::lent::{Areas, Changes};
 use types::records::{Name, Outcome, Session, Update};
@@ -57,7 +58,7 @@ fn update_of(line: &[u64]) -> Update {
     }
 }
 
-fn compare_answer(answer: Result<Updated, Refusal>, line: &[u64]) -> Difference {
+fn compare_answer(answer: Result<Updated, Refusal>, line: &[u64]) -> Result<(), Difference> {
     let u = crossing::updated::updated_words(answer);
     let words = [
         u.outcome,
@@ -74,10 +75,10 @@ fn compare_answer(answer: Result<Updated, Refusal>, line: &[u64]) -> Difference 
         u.reason,
         u.handover,
     ];
-    areas::compare_numbers(areas::NONE, names::ANSWER, &words, line, ANSWER)
+    areas::compare_numbers(What::Answer, &words, line, ANSWER)
 }
 
-fn compare_session(d: Difference, s: Session, line: &[u64]) -> Difference {
+fn compare_session(s: Session, line: &[u64]) -> Result<(), Difference> {
     let words = [
         s.id,
         s.held as u64,
@@ -91,17 +92,17 @@ fn compare_session(d: Difference, s: Session, line: &[u64]) -> Difference {
         s.secure.present as u64,
         s.secure.text,
     ];
-    areas::compare_numbers(d, names::SESSION, &words, line, AFTER)
+    areas::compare_numbers(What::Session, &words, line, AFTER)
 }
 
-fn compare_outcome(o: Outcome, line: &[u64]) -> Difference {
+fn compare_outcome(o: Outcome, line: &[u64]) -> Result<(), Difference> {
     let answer = o.answer;
-    let d = compare_answer(answer, line);
-    compare_session(d, o.session, line)
+    compare_answer(answer, line)?;
+    compare_session(o.session, line)
 }
 
 // The call with its four lists, and what of them and of the answer is not as expected.
-pub fn ask(line: &[u64], work: &mut [u64], lent: &mut Areas) -> Difference {
+pub fn ask(line: &[u64], work: &mut [u64], lent: &mut Areas) -> Result<(), Difference> {
     let mut added = [0u64; 2048];
     let mut removed = [0u64; 2048];
     let mut splits = [0u64; 2048];
@@ -134,16 +135,9 @@ pub fn ask(line: &[u64], work: &mut [u64], lent: &mut Areas) -> Difference {
         lent,
         &mut changes,
     );
-    areas::compare_four(
-        compare_outcome(outcome, line),
-        names::ADDED,
-        &added,
-        &removed,
-        &splits,
-        &merges,
-        line,
-        PARTS,
-        7,
-        15,
-    )
+    compare_outcome(outcome, line)?;
+    areas::compare(What::Added, &added, line, PARTS, 7, 15)?;
+    areas::compare(What::Removed, &removed, line, PARTS, 8, 16)?;
+    areas::compare(What::Splits, &splits, line, PARTS, 9, 17)?;
+    areas::compare(What::Merges, &merges, line, PARTS, 10, 18)
 }

@@ -16,6 +16,7 @@ pub fn put_list(out: &mut [u8], at: usize, list: &[u64], count: usize) -> usize
         return put_byte(out, at, b'-');
     }
     let mut p = put_number(out, at, list[0]);
+    // a range: the numbers from the second on, each with a comma before it; a slice from 1 on would be no plainer
     for i in 1..n {
         p = put_byte(out, p, b',');
         p = put_number(out, p, list[i]);
@@ -41,6 +42,7 @@ pub fn put_pairs(out: &mut [u8], at: usize, pairs: &[u64], count: usize, mark: u
         return put_byte(out, at, b'-');
     }
     let mut p = put_pair(out, at, pairs[0], mark, pairs[1]);
+    // a range: each turn takes two words
     for i in 1..n {
         p = put_byte(out, p, b',');
         p = put_pair(out, p, pairs[2 * i], mark, pairs[2 * i + 1]);

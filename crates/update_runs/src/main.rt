@@ -127,16 +127,11 @@ fn again(rt: &impl Print, t: Topic) -> io::Result<Topic> {
 }
 
 fn split_too_large(rt: &impl Print, t: Topic) -> io::Result<Topic> {
-    let none = [0u64; 0];
     let rows = tables::SPLIT;
     let edges = tables::SPLIT_EDGES;
     let mut added = [shown::SPARE; 3];
     shown::text(rt, b"a split, epoch 3, at most 2 segments:")?;
-    let layout = Layout {
-        rows: &rows,
-        edges: &edges,
-        places: &none,
-    };
+    let layout = topic::unplaced(&rows, &edges);
     topic::step(rt, t, plain(3), TWO_SEGMENTS, &layout, &mut added)
 }
 
@@ -170,15 +165,10 @@ fn miscounted(rt: &impl Print, t: Topic) -> io::Result<Topic> {
 }
 
 fn short(rt: &impl Print, t: Topic) -> io::Result<Topic> {
-    let none = [0u64; 0];
     let rows = tables::HALVES;
     let mut added = [shown::SPARE; 1];
     shown::text(rt, b"epoch 4, an added list of one word:")?;
-    let layout = Layout {
-        rows: &rows,
-        edges: &none,
-        places: &none,
-    };
+    let layout = topic::unplaced(&rows, &[]);
     topic::step(rt, t, plain(4), DagLimits::DEFAULT, &layout, &mut added)
 }
 

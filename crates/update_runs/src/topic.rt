@@ -107,6 +107,15 @@ pub fn step(
     })
 }
 
+// A layout without placements.
+pub fn unplaced<'a>(rows: &'a [u64], edges: &'a [u64]) -> Layout<'a> {
+    Layout {
+        rows,
+        edges,
+        places: &[],
+    }
+}
+
 // Under the default limits, with lists of enough room and no placements.
 pub fn usual(
     rt: &impl Print,
@@ -116,13 +125,8 @@ pub fn usual(
     rows: &[u64],
     edges: &[u64],
 ) -> io::Result<Topic> {
-    let none = [0u64; 0];
     let mut added = [shown::SPARE; 3];
-    let layout = Layout {
-        rows,
-        edges,
-        places: &none,
-    };
+    let layout = unplaced(rows, edges);
     shown::text(rt, label)?;
     step(rt, topic, update, DagLimits::DEFAULT, &layout, &mut added)
 }
@@ -135,12 +139,10 @@ pub fn alone(
     update: Update,
     rows: &[u64],
 ) -> io::Result<Topic> {
-    let none = [0u64; 0];
-    usual(rt, label, topic, update, rows, &none)
+    usual(rt, label, topic, update, rows, &[])
 }
 
 // With no tables.
 pub fn bare(rt: &impl Print, label: &[u8], topic: Topic, update: Update) -> io::Result<Topic> {
-    let none = [0u64; 0];
-    alone(rt, label, topic, update, &none)
+    alone(rt, label, topic, update, &[])
 }

@@ -3,7 +3,7 @@
 --     bare_step       an id without a row read
 --     row_step        a row reached
 --     meet-asks, meet-found, meet-nothing     both, as `meet_parent` does them
---     starts-next, starts-kept                where the edges of the rows begin
+--     starts-kept                             where the edges of the rows begin
 -- Assumes nothing.
 use Prim.Native.Nat.{ℕ, ◌+◌, ◌-◌, ◌*◌, ◌<◌, ◌≤◌}
 use native.Mathlib.Omega.{arith}

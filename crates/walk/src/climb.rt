@@ -5,6 +5,7 @@ ghost use Rattle.walk.specs.Met.{MetOnce, meet, meet_all, met_of, table_of, pare
 
 use crate::{noting, starts};
 use held::Held;
+use hints::near::Table;
 use types::records::RowIndex;
 
 // Where the edges of each row begin, and no row met.
@@ -60,7 +61,12 @@ fn meet_parent(held: &Held, p: u64, at: usize, t: Tally, w: &mut [u64]) -> Tally
         × (take held.now.count w.new ≡ take held.now.count w.old) }
 {
     let n = held.count;
-    let found = hints::near::find_near(held.rows, rules::HELD, n, p, at);
+    let table = Table {
+        rows: held.rows,
+        width: rules::HELD,
+        count: n,
+    };
+    let found = table.find_near(p, at);
     let bare = t.bare;
     let noted = t.noted;
     match found {

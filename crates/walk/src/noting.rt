@@ -30,6 +30,7 @@ fn fill_hints(held: &Held, g: usize, v: &mut [u64])
     requires places { (i : ℕ) → i < g → get_or v.old (g + i) 0 < g }
 {
     let mut at = 0;
+    // a range: ids and places are read and hints written in one area
     for i in 0..g {
         let p = v[g + i] as usize;
         at = hints::near::next_hint(held.rows, rules::HELD, held.count, v[p], at);
@@ -53,15 +54,11 @@ pub fn note_when_due(held: &Held, read: usize, noted: bool, w: &mut [u64]) -> bo
     ensures { take (6 * (held.now.count + length held.now.edges.now)) w.new
         ≡ take (6 * (held.now.count + length held.now.edges.now)) w.old }
 {
-    if noted {
-        return true;
-    }
-    let n = held.count;
-    let g = held.edges.len();
-    if are_due(held, read) {
-        let b = 6 * (n + g);
+    let due = !noted && are_due(held, read);
+    if due {
+        let g = held.edges.len();
+        let b = 6 * (held.count + g);
         note(held, &mut w[b..b + 3 * g + hints::FEW]);
-        return true;
     }
-    false
+    noted || due
 }

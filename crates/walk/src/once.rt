@@ -35,6 +35,7 @@ fn keep_once(w: &mut [u64], a: usize, m: usize, b: usize) -> usize
         × (take b w.new ≡ take b w.old) }
 {
     let mut k = 0;
+    // a range: read and written in one area
     for i in 0..m {
         k = keep_new(w, a, i, b, k);
     }

@@ -29,6 +29,7 @@ pub fn list_reached(held: &Held, w: &mut [u64], b: usize) -> usize
         × (result ≤ held.now.count) × (take b w.new ≡ take b w.old) }
 {
     let mut k = 0;
+    // a range of row numbers: rows are read by `Held`, and their marks stand in the area that is written
     for i in 0..held.count {
         k = list_row(held, i, w, b, k);
     }

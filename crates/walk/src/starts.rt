@@ -11,6 +11,7 @@ pub fn fill_starts(held: &Held, w: &mut [u64])
     ensures { StartsIn held.now.rows.now held.now.count w.new }
 {
     let mut at = 0;
+    // a range of row numbers: rows are read by `Held`
     for i in 0..held.count {
         w[i] = at as u64;
         at = held.next_start(RowIndex(i), at);
