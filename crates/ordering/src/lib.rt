@@ -53,8 +53,8 @@ pub fn ordering_eligibility(
     answer
 }
 
-// May the segment be read?
-pub fn permits_flow(answer: Result<Eligibility, Refusal>) -> bool
+// May the segment be read? A refusal of any type says that it may not.
+pub fn permits_flow<R: Drop>(answer: Result<Eligibility, R>) -> bool
     ensures { result ≡ permits_flow answer }
 {
     matches!(
