@@ -43,6 +43,10 @@ module _ (rows edges : List ℕ) (n : ℕ) (good : Tabled rows edges n) where
   pub table_rows : Rows rows n
   table_rows = record { room = omega (arith, good.size); up = good.up }
 
+  -- the rows that are lent hold all n
+  pub lent-room : n * held_width ≤ length rows
+  lent-room = table_rows.room
+
   abbrev S : List Segment
   S = held_segments rows edges n
 
