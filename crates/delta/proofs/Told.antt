@@ -3,7 +3,7 @@
 --     table_rows, bare-widths     what the parts ask of the rows that they are lent
 --     told-changed, told-delta     what they say of the lists and of the delta
 -- Assumes nothing.
-use Prim.Native.Nat.{ℕ, ◌≤◌}
+use Prim.Native.Nat.{ℕ, ◌*◌, ◌≤◌}
 use native.Mathlib.Omega.{arith}
 use mathlib.Core.Path.{◌≡◌, refl, sym, ap, ◌∙◌}
 use mathlib.Core.Bool.{Bool, true, false, not, cond}
@@ -14,7 +14,7 @@ use Rattle.lists.specs.Sets.{keep}
 use Rattle.answers.specs.declared.DagChangeReason.{DagChangeReason}
 use Rattle.answers.specs.declared.DagDelta.{DagDelta}
 use Rattle.rules.specs.Model.{Segment, id_of, ids_of}
-use Rattle.rules.specs.Tables.{held_segments}
+use Rattle.rules.specs.Tables.{held_width, held_segments}
 use Rattle.rules.specs.Delta.{added_from, widths_active, reason_of}
 use Rattle.rules.specs.Update.{Changes}
 use Rattle.tabled.specs.Image.{Tabled}
