@@ -6,7 +6,7 @@ use lister::lent::Buffers;
 use std::io;
 
 fn main(rt: HostRuntime) -> io::Result<()> {
-    let mut input = Input::new(rt.stdin());
+    let mut input = Input::<_, 4096>::new(rt.stdin());
     let mut buffers = Buffers::new();
     let mut listing = buffers.listing();
     let mut titled = false;
