@@ -126,6 +126,11 @@ abbrev pub number_of : Judged → ℕ
 number_of Accepted = 0
 number_of (Refused r) = refusal_number r
 
+-- of a judgement in words
+abbrev pub number_in_words : Result (Unit {0}) RefusalWords → ℕ
+number_in_words (Ok tt) = 0
+number_in_words (Err w) = w.number
+
 abbrev pub values_of : Judged → List ℕ
 values_of Accepted = []
 values_of (Refused r) = refusal_values r

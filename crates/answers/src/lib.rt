@@ -2,8 +2,8 @@
 // definition in specs/ that gives number and values for each of its cases.
 #![tactic(auto)]
 
-ghost use Rattle.std.specs.Prelude.{◌≡◌, slice_index};
-ghost use Rattle.answers.specs.Answer.{number_of, words_of};
+ghost use Rattle.std.specs.Prelude.{◌≡◌, slice_index, Err};
+ghost use Rattle.answers.specs.Answer.{number_of, number_in_words, words_of};
 
 pub mod kinds;
 
@@ -301,6 +301,13 @@ impl From<Refusal> for RefusalWords {
     }
 }
 
+// A refusal in words, of a number and values of the caller's own.
+pub fn refuse(number: u64, a: u64, b: u64, c: u64, d: u64) -> Result<(), RefusalWords>
+    ensures { result ≡ Err (record { number = number; a = a; b = b; c = c; d = d }) }
+{
+    Err(words(number, [a, b, c, d]))
+}
+
 // 0 where accepted.
 pub fn number(j: Result<(), Refusal>) -> u64
     ensures { result ≡ number_of j }
@@ -308,6 +315,16 @@ pub fn number(j: Result<(), Refusal>) -> u64
     match j {
         Ok(()) => 0,
         Err(r) => RefusalWords::from(r).number,
+    }
+}
+
+// The same of a judgement in words, whatever their number.
+pub fn number_in_words(j: Result<(), RefusalWords>) -> u64
+    ensures { result ≡ number_in_words j }
+{
+    match j {
+        Ok(_) => 0,
+        Err(w) => w.number,
     }
 }
 

@@ -41,8 +41,8 @@ fn judge_found(rows: &[u64], n: usize, row: usize, a: Assigned) -> Result<(), Re
     Ok(())
 }
 
-// 61, 62, 63, by the row with the record's id.
-fn judge_record(rows: &[u64], n: usize, a: Assigned) -> Result<(), Refusal>
+// 61, 62, 63, by the row with the record's id: of one record, for a caller that has them one at a time and knows that its tables are good.
+pub fn judge_record(rows: &[u64], n: usize, a: Assigned) -> Result<(), Refusal>
     requires rows_in_bounds { n * held_width ≤ length rows.now }
     requires ascends { Ascends (ids rows.now held_width n) }
     ensures { result ≡ assigned_rule (heads held_width rows.now n 0) a }

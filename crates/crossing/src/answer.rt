@@ -35,7 +35,8 @@ pub fn refusal_of(judged: Result<(), Refusal>) -> RefusalWords
     }
 }
 
-fn told(
+// The words of an answer as they are. Any refusal's words do.
+pub fn told(
     outcome: u64,
     refusal: RefusalWords,
     first: usize,

@@ -32,8 +32,8 @@ fn reason_number(reason: DagChangeReason) -> u64
     }
 }
 
-// Nothing was changed.
-fn unchanged(outcome: u64, refusal: RefusalWords) -> UpdatedWords
+// Nothing was changed: refused, by any refusal's words, or stale.
+pub fn unchanged(outcome: u64, refusal: RefusalWords) -> UpdatedWords
     ensures { result ≡ unchanged_words outcome refusal }
 {
     UpdatedWords {

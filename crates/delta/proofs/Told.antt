@@ -3,7 +3,7 @@
 --     table_rows, bare-widths     what the parts ask of the rows that they are lent
 --     told-changed, told-delta     what they say of the lists and of the delta
 -- Assumes nothing.
-use Prim.Native.Nat.{ℕ, ◌≤◌}
+use Prim.Native.Nat.{ℕ, ◌*◌, ◌≤◌}
 use native.Mathlib.Omega.{arith}
 use mathlib.Core.Path.{◌≡◌, refl, sym, ap, ◌∙◌}
 use mathlib.Core.Bool.{Bool, true, false, not, cond}
@@ -14,7 +14,7 @@ use Rattle.lists.specs.Sets.{keep}
 use Rattle.answers.specs.declared.DagChangeReason.{DagChangeReason}
 use Rattle.answers.specs.declared.DagDelta.{DagDelta}
 use Rattle.rules.specs.Model.{Segment, id_of, ids_of}
-use Rattle.rules.specs.Tables.{held_segments}
+use Rattle.rules.specs.Tables.{held_width, held_segments}
 use Rattle.rules.specs.Delta.{added_from, widths_active, reason_of}
 use Rattle.rules.specs.Update.{Changes}
 use Rattle.tabled.specs.Image.{Tabled}
@@ -42,6 +42,10 @@ removed-lacking u ss = refl
 module _ (rows edges : List ℕ) (n : ℕ) (good : Tabled rows edges n) where
   pub table_rows : Rows rows n
   table_rows = record { room = omega (arith, good.size); up = good.up }
+
+  -- the rows that are lent hold all n
+  pub lent-room : n * held_width ≤ length rows
+  lent-room = table_rows.room
 
   abbrev S : List Segment
   S = held_segments rows edges n

@@ -71,7 +71,7 @@ fn write_moved(rows: &HeldRows, old: &HeldRows, changes: &mut Changes) -> Moved
     Moved {
         added: more,
         removed: fewer,
-        handover: widths::handover(rows, old),
+        handover: widths::handover(rows.rows, rows.count, old),
     }
 }
 

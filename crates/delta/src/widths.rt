@@ -39,16 +39,16 @@ fn handed_over(rows: &[u64], w: usize, old: &HeldRows) -> u64
     )
 }
 
-// Over all rows. An accepted layout's Active rows have 65536 hashes together, so no sum can wrap.
-pub fn handover(rows: &HeldRows, old: &HeldRows) -> u64
-    requires widths_fit { widths_active (bare rows.now.rows.now rows.now.count) ≤ 65536 }
-    ensures { result ≡
-        widths_active (added_from (ids_held old.now) (bare rows.now.rows.now rows.now.count)) }
+// Over the first n rows, in any order. An accepted layout's Active rows have 65536 hashes together, so no sum can wrap.
+pub fn handover(rows: &[u64], n: usize, old: &HeldRows) -> u64
+    requires rows_in_bounds { n * held_width ≤ length rows.now }
+    requires widths_fit { widths_active (bare rows.now n) ≤ 65536 }
+    ensures { result ≡ widths_active (added_from (ids_held old.now) (bare rows.now n)) }
 {
     let mut sum = 0;
     // by index: what is lent are words, and a row is read from them by its number
-    for i in 0..rows.count {
-        sum += handed_over(rows.rows, i * rules::HELD, old);
+    for i in 0..n {
+        sum += handed_over(rows, i * rules::HELD, old);
     }
     sum
 }

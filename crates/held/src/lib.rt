@@ -10,11 +10,14 @@ ghost use Rattle.tabled.specs.Image.{Tabled};
 use answers::Refusal;
 use types::records::{RowIndex, SegmentId, Side};
 
-// Held tables as they are lent: the first `count` rows of one area, and the first `edge_count` words of another.
+pub mod row;
+
+// Held tables as they are lent: the first `count` rows of one area, and the first `edge_count` words of another. Each is lent for a time of
+// its own, so a stretch of the edges doesn't keep the rows lent.
 #[derive(Clone, Copy)]
-pub struct HeldTables<'a> {
-    pub rows: &'a [u64],
-    pub edges: &'a [u64],
+pub struct HeldTables<'r, 'e> {
+    pub rows: &'r [u64],
+    pub edges: &'e [u64],
     pub count: usize,
     pub edge_count: usize,
 }
@@ -40,7 +43,7 @@ impl<'a> Held<'a> {
     ghost use Rattle.held.specs.Spans.{span_of};
 
     // The tables that are lent, or refusal 1.
-    pub fn new(tables: &HeldTables<'a>) -> Result<Held<'a>, Refusal>
+    pub fn new(tables: &HeldTables<'a, 'a>) -> Result<Held<'a>, Refusal>
         ensures { MatchResult result (λ held. IsFront tables.now held) (λ r. IsBad tables.now r) }
     {
         let count = tables.count;
@@ -82,14 +85,14 @@ impl<'a> Held<'a> {
         requires { row.0 < self.now.count }
         ensures { result ≡ parents_at self.now.rows.now (row.0 * held_width) }
     {
-        self.rows[row.0 * rules::HELD + rules::PARENTS] as usize
+        row::parents(self.rows, row.0)
     }
 
     pub fn child_count(&self, row: RowIndex) -> usize
         requires { row.0 < self.now.count }
         ensures { result ≡ children_at self.now.rows.now (row.0 * held_width) }
     {
-        self.rows[row.0 * rules::HELD + rules::CHILDREN] as usize
+        row::children(self.rows, row.0)
     }
 
     // Where the edges of the row after this one begin, if those of this one begin at `start`.
@@ -98,19 +101,15 @@ impl<'a> Held<'a> {
         requires start { start ≡ start_of held_width self.now.rows.now row.0 }
         ensures { result ≡ start_of held_width self.now.rows.now (row.0 + 1) }
     {
-        start + self.parent_count(row) + self.child_count(row)
+        row::edges_end(self.rows, row.0, start)
     }
 
     // Where the edges of a row begin: those of the rows before it are counted.
-    fn start_of(&self, row: RowIndex) -> usize
+    pub fn start_of(&self, row: RowIndex) -> usize
         requires { row.0 < self.now.count }
         ensures { result ≡ start_of held_width self.now.rows.now row.0 }
     {
-        let mut start = 0;
-        for i in 0..row.0 {
-            start = self.next_start(RowIndex(i), start);
-        }
-        start
+        row::edge_start(self.rows, self.count, self.edges.len(), row.0)
     }
 
     // The parents of a row stand first, its children behind them.
@@ -119,17 +118,6 @@ impl<'a> Held<'a> {
         ensures value { result ≡ span_of side self.now.rows.now row.0 }
         ensures within { result.start + result.length ≤ length self.now.edges.now }
     {
-        let start = self.start_of(row);
-        let parents = self.parent_count(row);
-        match side {
-            Side::Parents => Span {
-                start,
-                length: parents,
-            },
-            Side::Children => Span {
-                start: start + parents,
-                length: self.child_count(row),
-            },
-        }
+        row::span_in(self.rows, self.count, self.edges.len(), side, row.0)
     }
 }

@@ -122,7 +122,7 @@ pub fn judge_layout_with_limits(
     if shape::tables::is_bad_layout(layout.rows, layout.edges, layout.places) {
         return Err(Refusal::BadTable);
     }
-    if shape::room::lacks_room_to_judge(layout, work.len(), areas) {
+    if shape::room::is_short_to_judge(layout, work.len(), areas) {
         return Err(Refusal::NoRoom);
     }
     let judged = judge_in(work, epoch, size, limits, layout);

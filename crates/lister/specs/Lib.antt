@@ -1,1 +1,4 @@
+pub mod Standing
+pub mod Lent
 pub mod Listing
+pub mod Room

@@ -1,7 +1,7 @@
 // The two answers that the listing prints: of an update, and of an ordering query. Areas that no line comes back to are lent from here.
-ghost use Rattle.lister.specs.Listing.{IsKept};
+ghost use Rattle.lister.specs.Lent.{SameHeld};
 
-use crate::tables::Tables;
+use crate::lent::{Held, Tables};
 use crate::{Standing, tables};
 use held::HeldTables;
 use printing::updates::Left;
@@ -10,16 +10,22 @@ use types::lent::{Areas, Changes, History, Layout, Lists};
 use types::records::{OrderingMode, SegmentId, Session};
 
 // The update that `.` ends: its answer is printed, and the session after it handed back.
-pub fn end_update(rt: &impl Print, at: Standing, tables: &mut Tables) -> io::Result<Session>
-    ensures { IsKept at.edges tables.old tables.new }
+pub fn end_update(
+    rt: &impl Print,
+    at: Standing,
+    tables: &Tables,
+    held: &mut Held,
+) -> io::Result<Session>
+    ensures { SameHeld held.old held.new }
 {
+    let rows = &*tables.rows;
+    let edges = &*tables.edges;
+    let places = &*tables.places;
     let layout = Layout {
-        rows: tables::first(&tables.rows, at.rows),
-        edges: tables::first(&tables.edges, at.edges),
-        places: tables::first(&tables.places, at.places),
+        rows: tables::first(rows, at.rows),
+        edges: tables::first(edges, at.edges),
+        places: tables::first(places, at.places),
     };
-    let held: &mut [u64] = &mut tables.held;
-    let links: &mut [u64] = &mut tables.links;
     // 32 words for each of 32 rows, 32 placements, 64 edge words and 32 held rows
     let mut work = [0u64; 5120];
     let mut order = [0u64; 32];
@@ -28,8 +34,8 @@ pub fn end_update(rt: &impl Print, at: Standing, tables: &mut Tables) -> io::Res
     let mut splits = [0u64; 128];
     let mut merges = [0u64; 128];
     let mut areas = Areas {
-        held,
-        links,
+        held: &mut *held.rows,
+        links: &mut *held.edges,
         order: &mut order,
     };
     let mut changes = Changes {
@@ -65,21 +71,19 @@ pub fn end_update(rt: &impl Print, at: Standing, tables: &mut Tables) -> io::Res
 pub fn ask(
     rt: &impl Print,
     session: Session,
-    tables: &Tables,
+    lent: &Held,
     id: u64,
     mode: OrderingMode,
     history: &[u64],
     completed: &[u64],
 ) -> io::Result<()> {
-    let rows: &[u64] = &tables.held;
-    let edges: &[u64] = &tables.links;
     // 32 words for each of 64 held edge words and 32 held rows
     let mut work = [0u64; 3072];
     let mut first = [0u64; 65];
     let mut second = [0u64; 65];
     let held = HeldTables {
-        rows,
-        edges,
+        rows: &*lent.rows,
+        edges: &*lent.edges,
         count: session::held_rows(session),
         edge_count: session::held_edges(session),
     };

@@ -1,26 +1,26 @@
-// The bytes of an input one by one, out of a buffer.
+// The bytes of an input one by one, out of a buffer of N bytes.
 ghost use Rattle.std.specs.Prelude.{◌≤◌, OnErr};
 
 use std::io;
 use std::io::Read;
 
 #[derive(Drop)]
-pub struct Input<R: Read> {
+pub struct Input<R: Read, const N: usize> {
     pub reader: R,
-    pub buffer: [u8; 4096],
+    pub buffer: [u8; N],
     // the bytes of the buffer that are still to come stand from `next` to before `end`
     pub next: usize,
     pub end: usize,
-    ghost in_buffer: { end ≤ 4096 },
+    ghost in_buffer: { end ≤ N },
 }
 
-impl<R: Read> Input<R> {
-    pub fn new(reader: R) -> Input<R>
+impl<R: Read, const N: usize> Input<R, N> {
+    pub fn new(reader: R) -> Input<R, N>
         ensures none_to_come { result.end ≤ result.next }
     {
         Input {
             reader,
-            buffer: [0u8; 4096],
+            buffer: [0u8; N],
             next: 0,
             end: 0,
         }

@@ -5,7 +5,7 @@
 ghost use Rattle.std.specs.Prelude.{◌≡◌, OnErr};
 
 use crate::input::Input;
-use crate::tables::Tables;
+use crate::lent::{Bytes, Held, Tables};
 use drafts::places::Place;
 use reading::lines::Line;
 use std::io;
@@ -14,6 +14,7 @@ use types::records::{Broker, OrderingMode, SegmentInfo, Session, Update};
 
 mod answering;
 pub mod input;
+pub mod lent;
 mod tables;
 
 // Where the listing stands between two bytes.
@@ -45,23 +46,14 @@ fn stop(rt: &impl Print, at: Standing) -> io::Result<Standing> {
     })
 }
 
-// A listing: where it stands, and its areas. A call that fails does so because a write failed, and leaves it standing where it stood.
-#[derive(Clone, Copy)]
-pub struct Listing {
-    pub at: Standing,
-    pub tables: Tables,
-}
-
-impl Listing {
-    ghost use Rattle.drafts.specs.Places.{at_first};
-    ghost use Rattle.lister.specs.Listing.{IsKept, IsLeft};
+impl Standing {
+    ghost use Rattle.lister.specs.Standing.{IsFirst};
 
     // Before the first byte.
-    pub fn new() -> Listing
-        ensures no_line { result.at.lines ≡ 0 }
-        ensures first { result.at.place ≡ at_first }
+    pub fn first() -> Standing
+        ensures { IsFirst result }
     {
-        let at = Standing {
+        Standing {
             kept: Some(0),
             begun: false,
             lines: 0,
@@ -72,18 +64,58 @@ impl Listing {
             rows: 0,
             edges: 0,
             places: 0,
-        };
-        Listing {
-            at,
-            tables: tables::empty(),
         }
+    }
+}
+
+// A listing: where it stands, and what it was lent. A call that fails does so because a write failed, and leaves it standing where it stood.
+#[derive(Drop)]
+pub struct Listing<'a> {
+    pub at: Standing,
+    pub line: Bytes<'a>,
+    pub tables: Tables<'a>,
+    pub held: Held<'a>,
+}
+
+impl<'a> Listing<'a> {
+    ghost use Rattle.drafts.specs.Places.{at_first};
+    ghost use Rattle.lister.specs.Standing.{IsFirst};
+    ghost use Rattle.lister.specs.Listing.{IsSame, IsUnwritten, IsKept, IsLeft};
+
+    // Before the first byte. A line, a row, a placement or an edge list for which there is no room is unreadable.
+    pub fn new(line: &'a mut [u8], tables: Tables<'a>, held: Held<'a>) -> Listing<'a>
+        ensures no_line { result.at.lines ≡ 0 }
+        ensures first { result.at.place ≡ at_first }
+        ensures stands { IsFirst result.at }
+        ensures line { result.line.bytes ≡ line.entry }
+        ensures tables { result.tables ≡ tables.entry }
+        ensures held { result.held ≡ held.entry }
+    {
+        Listing {
+            at: Standing::first(),
+            line: Bytes { bytes: line },
+            tables,
+            held,
+        }
+    }
+
+    // Before the first byte of another input. The areas keep their words, which no count has as filled.
+    pub fn restart(&mut self)
+        ensures stands { IsFirst self.new.at }
+        ensures same { IsSame self.old self.new }
+        ensures unwritten { IsUnwritten self.old self.new }
+    {
+        self.at = Standing::first();
     }
 
     fn add_segment(&mut self, rt: &impl Print, at: Standing, s: SegmentInfo) -> io::Result<Standing>
         ensures stands { self.new.at ≡ self.old.at }
-        ensures on_err { OnErr result (self.new ≡ self.old) }
+        ensures same { IsSame self.old self.new }
+        ensures line { self.new.line.bytes.now ≡ self.old.line.bytes.now }
+        ensures edges { self.new.tables.edges.now ≡ self.old.tables.edges.now }
+        ensures on_err { OnErr result (IsUnwritten self.old self.new) }
     {
-        if !tables::add_segment(&mut self.tables.rows, at.rows, s) {
+        if !tables::add_segment(self.tables.rows, at.rows, s) {
             return stop(rt, at);
         }
         let edges = at.edges.saturating_add(s.parents as usize);
@@ -96,9 +128,12 @@ impl Listing {
 
     fn add_placement(&mut self, rt: &impl Print, at: Standing, b: Broker) -> io::Result<Standing>
         ensures stands { self.new.at ≡ self.old.at }
-        ensures on_err { OnErr result (self.new ≡ self.old) }
+        ensures same { IsSame self.old self.new }
+        ensures line { self.new.line.bytes.now ≡ self.old.line.bytes.now }
+        ensures edges { self.new.tables.edges.now ≡ self.old.tables.edges.now }
+        ensures on_err { OnErr result (IsUnwritten self.old self.new) }
     {
-        if !tables::add_placement(&mut self.tables.places, at.places, b) {
+        if !tables::add_placement(self.tables.places, at.places, b) {
             return stop(rt, at);
         }
         Ok(Standing {
@@ -117,7 +152,10 @@ impl Listing {
         completed: &[u64],
     ) -> io::Result<Standing>
         ensures stands { self.new.at ≡ self.old.at }
-        ensures on_err { OnErr result (IsKept at.edges self.old.tables self.new.tables) }
+        ensures same { IsSame self.old self.new }
+        ensures line { self.new.line.bytes.now ≡ self.old.line.bytes.now }
+        ensures edges { self.new.tables.edges.now ≡ self.old.tables.edges.now }
+        ensures on_err { OnErr result (IsKept at.edges self.old self.new) }
     {
         match line {
             Line::Session(id) => Ok(Standing {
@@ -133,13 +171,13 @@ impl Listing {
             Line::Segment(s) => self.add_segment(rt, at, s),
             Line::Placement(b) => self.add_placement(rt, at, b),
             Line::End => {
-                let session = answering::end_update(rt, at, &mut self.tables)?;
+                let session = answering::end_update(rt, at, &self.tables, &mut self.held)?;
                 Ok(Standing { session, ..at })
             }
             Line::Query(id, mode, owned, done) => {
                 let history = tables::first(history, owned);
                 let completed = tables::first(completed, done);
-                answering::ask(rt, at.session, &self.tables, id, mode, history, completed)?;
+                answering::ask(rt, at.session, &self.held, id, mode, history, completed)?;
                 Ok(at)
             }
             Line::Layout(_, _) | Line::Error(_, _) => Ok(at),
@@ -150,14 +188,16 @@ impl Listing {
     // A whole line, without its end.
     fn take_line(&mut self, rt: &impl Print, at: Standing, bytes: usize) -> io::Result<Standing>
         ensures stands { self.new.at ≡ self.old.at }
-        ensures on_err { OnErr result (IsKept at.edges self.old.tables self.new.tables) }
+        ensures same { IsSame self.old self.new }
+        ensures line { self.new.line.bytes.now ≡ self.old.line.bytes.now }
+        ensures on_err { OnErr result (IsKept at.edges self.old self.new) }
     {
         let mut history = [0u64; 64];
         let mut completed = [0u64; 64];
-        let line = tables::first(&self.tables.line, bytes);
         let said = tables::read_behind(
-            line,
-            &mut self.tables.edges,
+            &self.line,
+            bytes,
+            &mut self.tables,
             at.edges,
             &mut history,
             &mut completed,
@@ -178,6 +218,8 @@ impl Listing {
 
     // The line in the buffer is whole.
     fn end_line(&mut self, rt: &impl Print) -> io::Result<()>
+        ensures same { IsSame self.old self.new }
+        ensures line { self.new.line.bytes.now ≡ self.old.line.bytes.now }
         ensures on_err { OnErr result (IsLeft self.old self.new) }
     {
         let was = self.at;
@@ -197,14 +239,17 @@ impl Listing {
     }
 
     // One byte more of the line.
-    fn keep(&mut self, b: u8) {
-        let kept = reading::kept::take_byte(&mut self.tables.line, self.at.kept, b);
-        self.at.kept = kept;
+    fn keep(&mut self, b: u8)
+        ensures same { IsSame self.old self.new }
+    {
+        let kept = self.at.kept;
+        self.at.kept = reading::kept::take_byte(self.line.bytes, kept, b);
         self.at.begun = true;
     }
 
     // One byte more of the input.
     pub fn take_byte(&mut self, rt: &impl Print, b: u8) -> io::Result<()>
+        ensures same { IsSame self.old self.new }
         ensures on_err { OnErr result (IsLeft self.old self.new) }
     {
         if self.at.stopped {
@@ -219,6 +264,8 @@ impl Listing {
 
     // The end of the input. A last line without its newline is read.
     pub fn finish(&mut self, rt: &impl Print) -> io::Result<()>
+        ensures same { IsSame self.old self.new }
+        ensures line { self.new.line.bytes.now ≡ self.old.line.bytes.now }
         ensures on_err { OnErr result (IsLeft self.old self.new) }
     {
         if self.at.stopped || !self.at.begun {

@@ -1,31 +1,11 @@
-// The areas of a listing, and the tables of the update that is open: rows are added behind their filled words while there is room. Nothing
+// The tables of the update that is open: rows are added behind their filled words while there is room. Nothing
 // links a count to its table but these functions, so each test stands where the words are.
 ghost use Rattle.std.specs.Prelude.{◌≡◌, IsFalse, take};
+ghost use Rattle.lister.specs.Lent.{SameTables};
 
+use crate::lent::{Bytes, Tables};
 use reading::lines::Line;
 use types::records::{Broker, SegmentInfo};
-
-// 32 s lines, 32 p lines and 64 edge words an update, and as much that is held. A line is kept in 4,096 bytes.
-#[derive(Clone, Copy)]
-pub struct Tables {
-    pub line: [u8; 4096],
-    pub rows: [u64; 352],
-    pub edges: [u64; 64],
-    pub places: [u64; 128],
-    pub held: [u64; 480],
-    pub links: [u64; 64],
-}
-
-pub fn empty() -> Tables {
-    Tables {
-        line: [0u8; 4096],
-        rows: [0u64; 352],
-        edges: [0u64; 64],
-        places: [0u64; 128],
-        held: [0u64; 480],
-        links: [0u64; 64],
-    }
-}
 
 // The 11 words of a segment row; false, and nothing written, where there is no room for them. A `bool`: it is the one way to fail, and
 // the caller stops at it.
@@ -69,18 +49,24 @@ pub fn first<T: Copy>(list: &[T], n: usize) -> &[T] {
     &list[..n.min(list.len())]
 }
 
-// A line whose parents and children go behind the first `at` edge words.
+// A line of so many bytes, whose parents and children go behind the first `at` edge words.
 pub fn read_behind(
-    line: &[u8],
-    edges: &mut [u64],
+    line: &Bytes,
+    bytes: usize,
+    tables: &mut Tables,
     at: usize,
     history: &mut [u64],
     completed: &mut [u64],
 ) -> Option<Line>
-    ensures { take at edges.new ≡ take at edges.old }
+    ensures same { SameTables tables.old tables.new }
+    ensures rows { tables.new.rows.now ≡ tables.old.rows.now }
+    ensures places { tables.new.places.now ≡ tables.old.places.now }
+    ensures edges { take at tables.new.edges.now ≡ take at tables.old.edges.now }
 {
+    let edges = &mut *tables.edges;
     if edges.len() < at {
         return None;
     }
+    let line = first(&*line.bytes, bytes);
     reading::lines::read_line(line, &mut edges[at..], history, completed)
 }

@@ -1,13 +1,14 @@
 // The listing program: standard input, a byte at a time, to answers on standard output.
 #![tactic(auto)]
 
-use lister::Listing;
 use lister::input::Input;
+use lister::lent::Buffers;
 use std::io;
 
 fn main(rt: HostRuntime) -> io::Result<()> {
-    let mut input = Input::new(rt.stdin());
-    let mut listing = Listing::new();
+    let mut input = Input::<_, 4096>::new(rt.stdin());
+    let mut buffers = Buffers::new();
+    let mut listing = buffers.listing();
     // no input has as many bytes
     for _ in 0..u64::MAX {
         let Some(b) = input.next_byte()? else {

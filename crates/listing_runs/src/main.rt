@@ -1,13 +1,14 @@
 // The listing on many inputs, one after another: a line that begins with `=` ends an input, is printed as it is, and begins the next.
 #![tactic(auto)]
 
-use lister::Listing;
 use lister::input::Input;
+use lister::lent::Buffers;
 use std::io;
 
 fn main(rt: HostRuntime) -> io::Result<()> {
-    let mut input = Input::new(rt.stdin());
-    let mut listing = Listing::new();
+    let mut input = Input::<_, 4096>::new(rt.stdin());
+    let mut buffers = Buffers::new();
+    let mut listing = buffers.listing();
     let mut titled = false;
     // no input has as many bytes
     for _ in 0..u64::MAX {
@@ -20,7 +21,7 @@ fn main(rt: HostRuntime) -> io::Result<()> {
         } else if b == b'=' {
             listing.finish(&rt)?;
             rt.write_all(&[b])?;
-            listing = Listing::new();
+            listing.restart();
             titled = true;
         } else {
             listing.take_byte(&rt, b)?;

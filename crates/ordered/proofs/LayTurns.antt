@@ -41,29 +41,29 @@ module _ (held : Held) (w₀ : List ℕ) where
       pub edges-done : k ≡ length held.edges.now → w ≡ put w₀ (7 * held.count + 1) (length held.edges.now) (node_edges held.rows.now held.count held.edges.now)
       edges-done q = fill-all (node_named held.rows.now held.count) held.edges.now w₀ (7 * held.count + 1) w k (length held.edges.now) q refl is
 
-  -- ---- the ids
+-- ---- the ids
 
-  module _ (fits : 5 * held.count ≤ length w₀) (nodes : Nodes held.count (part w₀ (4 * held.count) held.count)) where
-    abbrev taken : List ℕ
-    taken = part w₀ (4 * held.count) held.count
+module _ (rows : List ℕ) (n : ℕ) (w₀ : List ℕ) (fits : 5 * n ≤ length w₀) (nodes : Nodes n (part w₀ (4 * n) n)) where
+  abbrev taken : List ℕ
+  taken = part w₀ (4 * n) n
 
-    taken-size : length taken ≡ held.count
-    taken-size = part_length w₀ (4 * held.count) held.count (omega arith)
+  taken-size : length taken ≡ n
+  taken-size = part_length w₀ (4 * n) n (omega arith)
 
-    module _ (w : List ℕ) (k : ℕ) (is : w ≡ put w₀ (4 * held.count) k (map (id_in held.rows.now) (take k taken))) where
-      module _ (h : k < held.count) (i : ℕ) (read : i ≡ get_or w (4 * held.count + k) 0) where
-        node-is : i ≡ get_or taken k 0
-        node-is =
-            read ∙ fill-after (id_in held.rows.now) taken w₀ (4 * held.count) w k (omega (arith, taken-size)) (omega arith) is (4 * held.count + k) (omega arith)
-            ∙ sym (part_at w₀ (4 * held.count) held.count k h)
+  module _ (w : List ℕ) (k : ℕ) (is : w ≡ put w₀ (4 * n) k (map (id_in rows) (take k taken))) where
+    module _ (h : k < n) (i : ℕ) (read : i ≡ get_or w (4 * n + k) 0) where
+      node-is : i ≡ get_or taken k 0
+      node-is =
+          read ∙ fill-after (id_in rows) taken w₀ (4 * n) w k (omega (arith, taken-size)) (omega arith) is (4 * n + k) (omega arith)
+          ∙ sym (part_at w₀ (4 * n) n k h)
 
-        pub node-below : i < held.count
-        node-below = omega (arith, node-is, nodes k (omega (arith, taken-size)))
+      pub node-below : i < n
+      node-below = omega (arith, node-is, nodes k (omega (arith, taken-size)))
 
-        pub ids-turn : (v : ℕ) → v ≡ get_or held.rows.now (i * held_width) 0
-            → set w (4 * held.count + k) v ≡ put w₀ (4 * held.count) (k + 1) (map (id_in held.rows.now) (take (k + 1) taken))
-        ids-turn v said =
-            fill-turn (id_in held.rows.now) taken w₀ (4 * held.count) w k v (omega (arith, taken-size)) (omega arith) is (said ∙ ap (id_in held.rows.now) node-is)
+      pub ids-turn : (v : ℕ) → v ≡ get_or rows (i * held_width) 0
+          → set w (4 * n + k) v ≡ put w₀ (4 * n) (k + 1) (map (id_in rows) (take (k + 1) taken))
+      ids-turn v said =
+          fill-turn (id_in rows) taken w₀ (4 * n) w k v (omega (arith, taken-size)) (omega arith) is (said ∙ ap (id_in rows) node-is)
 
-      pub ids-done : k ≡ held.count → w ≡ put w₀ (4 * held.count) held.count (map (id_in held.rows.now) taken)
-      ids-done q = fill-all (id_in held.rows.now) taken w₀ (4 * held.count) w k held.count q taken-size is
+    pub ids-done : k ≡ n → w ≡ put w₀ (4 * n) n (map (id_in rows) taken)
+    ids-done q = fill-all (id_in rows) taken w₀ (4 * n) w k n q taken-size is

@@ -38,7 +38,7 @@ pub fn judge_order(held: &Held, scratch: &mut [u64], limit: u64) -> Result<(), R
 {
     match order_nodes(held, scratch, limit) {
         Ok(()) => {
-            lay_ids(held, scratch);
+            lay_ids(held.rows, held.count, scratch);
             Ok(())
         }
         Err(OrderError::Depth(depth)) => Err(Refusal::Depth {

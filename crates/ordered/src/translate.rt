@@ -2,6 +2,7 @@
 // the edges from 7n + 1 on, the order from 4n on.
 ghost use Rattle.std.specs.Prelude.{◌≡◌, map, ◌+◌, ◌*◌, ◌≤◌, length};
 ghost use Rattle.words.specs.Part.{part, put};
+ghost use Rattle.rules.specs.Tables.{held_width};
 ghost use Rattle.order.specs.Graph.{Nodes};
 ghost use Rattle.ordered.specs.Numbers.{offsets, node_named, node_edges, id_in};
 
@@ -48,16 +49,16 @@ pub fn lay_edges(held: &Held, scratch: &mut [u64])
     }
 }
 
-// The nodes of the order become ids.
-pub fn lay_ids(held: &Held, scratch: &mut [u64])
-    requires room { 5 * held.now.count ≤ length scratch.old }
-    requires nodes { Nodes held.now.count (part scratch.old (4 * held.now.count) held.now.count) }
-    ensures { scratch.new ≡ put scratch.old (4 * held.now.count) held.now.count
-        (map (id_in held.now.rows.now) (part scratch.old (4 * held.now.count) held.now.count)) }
+// The nodes of the order become ids, by the first words of the n rows.
+pub fn lay_ids(rows: &[u64], n: usize, scratch: &mut [u64])
+    requires rows_fit { n * held_width ≤ length rows.now }
+    requires room { 5 * n ≤ length scratch.old }
+    requires nodes { Nodes n (part scratch.old (4 * n) n) }
+    ensures { scratch.new ≡ put scratch.old (4 * n) n (map (id_in rows.now) (part scratch.old (4 * n) n)) }
 {
-    let base = 4 * held.count;
-    for k in 0..held.count {
+    let base = 4 * n;
+    for k in 0..n {
         let node = index(scratch[base + k]);
-        scratch[base + k] = held.id(RowIndex(node)).0;
+        scratch[base + k] = rows[node * rules::HELD];
     }
 }

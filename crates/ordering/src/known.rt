@@ -20,7 +20,7 @@ pub fn find_span(tables: &HeldTables, side: Side, id: SegmentId) -> Result<Span,
 }
 
 // The stretch itself, empty where there is none.
-pub(crate) fn edges_of<'a>(tables: &HeldTables<'a>, side: Side, id: SegmentId) -> &'a [u64]
+pub(crate) fn edges_of<'e>(tables: &HeldTables<'_, 'e>, side: Side, id: SegmentId) -> &'e [u64]
     ensures { result.now ≡ stretch_of side tables.now id.0 }
 {
     match find_span(tables, side, id) {

@@ -53,8 +53,8 @@ pub fn ordering_eligibility(
     answer
 }
 
-// May the segment be read?
-pub fn permits_flow(answer: Result<Eligibility, Refusal>) -> bool
+// May the segment be read? A refusal of any type says that it may not.
+pub fn permits_flow<R: Drop>(answer: Result<Eligibility, R>) -> bool
     ensures { result ≡ permits_flow answer }
 {
     matches!(
@@ -75,14 +75,14 @@ pub fn judge_known(tables: &HeldTables, id: SegmentId) -> Result<(), Refusal>
 }
 
 // The parents of this segment: a stretch of the held table itself, empty where `judge_known` refuses.
-pub fn parents_of<'a>(tables: &HeldTables<'a>, id: SegmentId) -> &'a [u64]
+pub fn parents_of<'e>(tables: &HeldTables<'_, 'e>, id: SegmentId) -> &'e [u64]
     ensures { result.now ≡ stretch_of Parents tables.now id.0 }
 {
     known::edges_of(tables, Side::Parents, id)
 }
 
 // The same of its children.
-pub fn children_of<'a>(tables: &HeldTables<'a>, id: SegmentId) -> &'a [u64]
+pub fn children_of<'e>(tables: &HeldTables<'_, 'e>, id: SegmentId) -> &'e [u64]
     ensures { result.now ≡ stretch_of Children tables.now id.0 }
 {
     known::edges_of(tables, Side::Children, id)

@@ -86,7 +86,12 @@ fn managed(
 }
 
 // Rows and edge words from the front of these areas.
-fn front<'a>(rows: &'a [u64], edges: &'a [u64], count: usize, edge_count: usize) -> HeldTables<'a> {
+fn front<'r, 'e>(
+    rows: &'r [u64],
+    edges: &'e [u64],
+    count: usize,
+    edge_count: usize,
+) -> HeldTables<'r, 'e> {
     HeldTables {
         rows,
         edges,

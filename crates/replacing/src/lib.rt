@@ -144,7 +144,7 @@ pub fn replace(
     if is_bad_held(areas, held) {
         return Err(Refusal::BadTable);
     }
-    if shape::room::lacks_room_to_update(layout, work.len(), areas, changes, held.rows) {
+    if shape::room::is_short_to_update(layout, work.len(), areas, changes, held.rows) {
         return Err(Refusal::NoRoom);
     }
     let judged = layout::judge_in(work, epoch, size, limits, layout);

@@ -1,5 +1,5 @@
 // The assignment. Its line: 5, held row count, held epoch, the assignment's epoch; number and values; the assigned segments (id, start, end) and
-// the held rows, each as a table.
+// the held rows, each as a table. The room for the records is lent, so that a line pays for its own records alone.
 use crate::areas::Difference;
 use crate::line::{ROOM, further, half_of, number_at};
 use crate::{areas, line};
@@ -10,9 +10,9 @@ const ANSWER: usize = 4;
 const PARTS: usize = 9;
 
 // A table of records has no more.
-const RECORDS: usize = ROOM / 3;
+pub const RECORDS: usize = ROOM / 3;
 
-const NONE: Assigned = Assigned {
+pub const NONE: Assigned = Assigned {
     id: 0,
     start: 0,
     end: 0,
@@ -29,21 +29,14 @@ fn record_at(line: &[u64], i: usize) -> Assigned {
     }
 }
 
-// The records of the list, and behind them what the line says further on.
-fn records_of(line: &[u64]) -> [Assigned; RECORDS] {
-    let mut records = [NONE; RECORDS];
-    for (i, record) in records.iter_mut().enumerate() {
-        *record = record_at(line, i);
-    }
-    records
-}
-
-pub fn replay(line: &[u64]) -> Result<(), Difference> {
+pub fn replay(line: &[u64], records: &mut [Assigned]) -> Result<(), Difference> {
     if !line::is_whole(line, PARTS, 2, 2) {
         return Err(areas::UNREAD);
     }
-    let records = records_of(line);
-    let len = RECORDS.min(line::part_of(line, PARTS, 0).length / 3);
+    let len = records.len().min(line::part_of(line, PARTS, 0).length / 3);
+    for (i, record) in records[..len].iter_mut().enumerate() {
+        *record = record_at(line, i);
+    }
     let judged = assignment::validate_assignment(
         &records[..len],
         line::table(line, PARTS, 1),

@@ -7,6 +7,7 @@ use crate::areas::Difference;
 use crate::reader::Reader;
 use lister::input::Input;
 use std::io;
+use types::records::Assigned;
 
 mod areas;
 mod asked;
@@ -22,14 +23,14 @@ mod stretches;
 mod updated;
 
 // The call that the line's first number names.
-fn replay(line: &[u64]) -> Result<(), Difference> {
+fn replay(line: &[u64], records: &mut [Assigned]) -> Result<(), Difference> {
     let call = line::number_at(line, 0);
     match call {
         1 => lent::replay(line, judged::PARTS, 11, 7),
         2 => lent::replay(line, updated::PARTS, 19, 11),
         3 => asked::replay(line),
         4 => stretches::replay(line),
-        5 => assigned::replay(line),
+        5 => assigned::replay(line, records),
         6 => described::replay(line),
         _ => Err(areas::UNREAD),
     }
@@ -47,11 +48,17 @@ fn show_difference(rt: &impl Print, lines: u64, d: Difference) -> io::Result<()>
 }
 
 // A whole line.
-fn take_line(rt: &impl Print, r: Reader, line: &[u64], counts: &mut [u64]) -> io::Result<Reader> {
+fn take_line(
+    rt: &impl Print,
+    r: Reader,
+    line: &[u64],
+    counts: &mut [u64],
+    records: &mut [Assigned],
+) -> io::Result<Reader> {
     let replayed = if r.bad {
         Err(areas::UNREAD)
     } else {
-        replay(line)
+        replay(line, records)
     };
     let next = reader::next_line(r, replayed.is_err());
     match replayed {
@@ -68,9 +75,10 @@ fn end_line(
     token: &[u8],
     line: &mut [u64],
     counts: &mut [u64],
+    records: &mut [Assigned],
 ) -> io::Result<Reader> {
     let next = reader::end_number(r, token, line);
-    take_line(rt, next, reader::first(line, next.words), counts)
+    take_line(rt, next, reader::first(line, next.words), counts, records)
 }
 
 // One byte more.
@@ -81,12 +89,13 @@ fn take(
     token: &mut [u8],
     line: &mut [u64],
     counts: &mut [u64],
+    records: &mut [Assigned],
 ) -> io::Result<Reader> {
     if b == b' ' {
         return Ok(reader::end_number(r, token, line));
     }
     if b == b'\n' {
-        return end_line(rt, r, token, line, counts);
+        return end_line(rt, r, token, line, counts, records);
     }
     Ok(reader::keep(r, b, token))
 }
@@ -102,14 +111,15 @@ fn main(rt: HostRuntime) -> io::Result<()> {
     let mut token = [0u8; 20];
     let mut line = [0u64; 2048];
     let mut counts = [0u64; 73];
-    let mut input = Input::new(rt.stdin());
+    let mut records = [assigned::NONE; assigned::RECORDS];
+    let mut input = Input::<_, 4096>::new(rt.stdin());
     let mut r = reader::start();
     // no input has as many bytes
     for _ in 0..u64::MAX {
         let Some(b) = input.next_byte()? else {
             return show(&rt, r, &counts);
         };
-        r = take(&rt, r, b, &mut token, &mut line, &mut counts)?;
+        r = take(&rt, r, b, &mut token, &mut line, &mut counts, &mut records)?;
     }
     Ok(())
 }

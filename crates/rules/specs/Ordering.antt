@@ -1,11 +1,13 @@
 -- Document 01: the ordering query, `permits_flow`, and parents and children of a segment.
 -- Assumes nothing.
-use Rattle.std.specs.Prelude.{Bool, true, false, cond, not, ◌&&◌, List, [], ◌∷◌, ℕ, ltb, length, replicate}
+use Rattle.std.specs.Prelude.{Bool, true, false, cond, Result, Ok, Err, not, ◌&&◌, List, [], ◌∷◌, ℕ, ltb, length, replicate}
 use Rattle.std.proofs.Math.Option.{Option, none, some}
 use Rattle.lists.specs.Lists as Lists
 use Rattle.lists.specs.Lists.{has, front}
 use Rattle.lists.specs.Sets.{keep}
 use Rattle.answers.specs.declared.Refusal.{Refusal}
+use Rattle.answers.specs.declared.Eligibility.{Eligibility}
+use Rattle.answers.specs.declared.Eligibility.TheVariants as C
 use Rattle.answers.specs.Verdict.{Verdict}
 use Rattle.answers.specs.Verdict as E
 use Rattle.answers.specs.declared.Ordering.{Ordering}
@@ -160,13 +162,13 @@ abbrev pub order_work_after : Asked → List ℕ → List ℕ
 order_work_after (refused_at r) work = work
 order_work_after (answered a) work = replicate (length work) 0
 
--- `permits_flow`
-abbrev pub permits_flow : Verdict → Bool
-permits_flow (E.Refused r) = false
-permits_flow (E.Unprovable id n) = false
-permits_flow (E.Blocked n m) = false
-permits_flow E.Eligible = true
-permits_flow (E.BrokerManaged m) = true
+-- `permits_flow`, whatever a refusal says
+abbrev pub permits_flow : {R : Type 0} → Result Eligibility R → Bool
+permits_flow (Err r) = false
+permits_flow (Ok (C.Unprovable id n)) = false
+permits_flow (Ok (C.Blocked n m)) = false
+permits_flow (Ok C.Eligible) = true
+permits_flow (Ok (C.BrokerManaged m)) = true
 
 -- ---- parents and children: "asked for parents or children the port hands back that stretch of the held table itself, empty where a
 -- sister call answers 1, then 50 for an unknown id"

@@ -12,14 +12,16 @@ use borrow.Author.Tests.{eq-eqb, ne_eqb}
 use lib.ListN.{length, get_or, take, drop, drop_of_length-le}
 use lib.Seq.{drop-cons, take-suc}
 use lib.Dec.{eqb}
-use Rattle.std.specs.Prelude.{Ok, Err}
+use Rattle.std.specs.Prelude.{Result, Ok, Err}
 use Rattle.lists.specs.Lists.{has}
 use Rattle.answers.specs.Answer.{when, ◌then◌, Judged, Accepted, Refused}
 use Rattle.types.specs.declared.records.Side.{Side}
+use Rattle.types.specs.declared.records.Side.TheVariants.{Parents, Children}
 use Rattle.rules.specs.Rows.{duplicate, items_from, list_rule}
 use Rattle.answers.specs.declared.Refusal.TheVariants as R
+use Rattle.answers.specs.declared.RefusalWords.{RefusalWords}
 use Rattle.segment.specs.declared.list.ListFault.TheVariants.{SelfEdge, Duplicate}
-use Rattle.segment.specs.Faults.{Faulted, fault_from, fault_of}
+use Rattle.segment.specs.Faults.{Faulted, fault_from, fault_of, numbered, in_words}
 
 -- none of the first i items is above top
 abbrev pub Under : List ℕ → ℕ → ℕ → Type 0
@@ -102,3 +104,26 @@ told_items side id before (x ∷ xs) = told-next side id x (eqb x id) (has x bef
 pub list_told : (side : Side) (id : ℕ) (list : List ℕ) (f : Faulted) (r : Judged) → f ≡ fault_of id list → r ≡ told side id f → r ≡ list_rule side id list
 unfolding fault_of list_rule
 list_told side id list f r e v = rw (v, e, told_items side id [] list)
+
+-- ---- in words, by a given number: at 20 what the rule says of parents, at 21 what it says of children
+
+parents-by : (id : ℕ) (f : Faulted) → numbered 20 id f ≡ in_words (told Parents id f)
+parents-by id (Ok tt) = refl
+parents-by id (Err SelfEdge) = refl
+parents-by id (Err (Duplicate x)) = refl
+
+children-by : (id : ℕ) (f : Faulted) → numbered 21 id f ≡ in_words (told Children id f)
+children-by id (Ok tt) = refl
+children-by id (Err SelfEdge) = refl
+children-by id (Err (Duplicate x)) = refl
+
+module _ (id number : ℕ) (list : List ℕ) (f : Faulted) (r : Result (Unit {0}) RefusalWords) where
+  pub parents_told : f ≡ fault_of id list → r ≡ numbered number id f → number ≡ 20 → r ≡ in_words (list_rule Parents id list)
+  unfolding fault_of list_rule
+  parents_told e v n = rw (v, n, parents-by id f, e, told_items Parents id [] list)
+
+  pub children_told : f ≡ fault_of id list → r ≡ numbered number id f → number ≡ 21 → r ≡ in_words (list_rule Children id list)
+  unfolding fault_of list_rule
+  children_told e v n = rw (v, n, children-by id f, e, told_items Children id [] list)
+
+pub ruleset numbered_told = (parents_told, children_told)

@@ -3,7 +3,7 @@
 use Rattle.std.specs.Prelude.{ℕ, cond, List, [], ◌∷◌, ◌++◌, Result, Ok, Err, eqb}
 use Rattle.lists.specs.Lists.{has}
 use Rattle.answers.specs.declared.RefusalWords.{RefusalWords}
-use Rattle.answers.specs.Answer.{words_by}
+use Rattle.answers.specs.Answer.{Judged, Accepted, Refused, words_by, words_of}
 use Rattle.segment.specs.declared.list.ListFault.{ListFault}
 use Rattle.segment.specs.declared.list.ListFault.TheVariants.{SelfEdge, Duplicate}
 
@@ -27,3 +27,8 @@ abbrev pub numbered : ℕ → ℕ → Faulted → Result (Unit {0}) RefusalWords
 numbered number id (Ok tt) = Ok tt
 numbered number id (Err SelfEdge) = Err (words_by 19 (id ∷ []))
 numbered number id (Err (Duplicate x)) = Err (words_by number (id ∷ x ∷ []))
+
+-- an answer of the rules, in words
+abbrev pub in_words : Judged → Result (Unit {0}) RefusalWords
+in_words Accepted = Ok tt
+in_words (Refused r) = Err (words_of r)

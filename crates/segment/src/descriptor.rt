@@ -1,8 +1,8 @@
 // The descriptor of a segment: what its row says of itself, and where it is served.
-ghost use Rattle.std.specs.Prelude.{◌≡◌, not, ◌||◌, eqb};
-ghost use Rattle.answers.specs.Answer.{when, Refused};
-ghost use Rattle.types.specs.Range.{range_of};
-ghost use Rattle.types.specs.State.{state_of};
+ghost use Rattle.std.specs.Prelude.{◌≡◌, not, ◌||◌, ◌∷◌, eqb};
+ghost use Rattle.answers.specs.Answer.{when, Refused, refusal_number, refusal_values};
+ghost use Rattle.types.specs.Range.{range_of, range_number, range_values};
+ghost use Rattle.types.specs.State.{state_of, state_number, state_values};
 ghost use Rattle.rules.specs.Tables.{optional};
 ghost use Rattle.rules.specs.Rows.{empty_text, range_rule, state_rule, descriptor_rule};
 ghost use Rattle.rules.specs.Descriptor as Rule;
@@ -22,6 +22,24 @@ fn is_empty_text(text: Optional) -> bool
     text.flag != 0 && text.word == 0
 }
 
+// A range's error as a refusal, told by the error's own number, with the id before the error's values.
+#[tactic(auto, unfolding(rules::specs::Rows::range_rule))]
+fn range_refusal(id: SegmentId, error: RangeError) -> Refusal
+    ensures number { refusal_number result ≡ range_number (Err error) }
+    ensures values { refusal_values result ≡ id.0 ∷ range_values (Err error) }
+    ensures told { Refused result ≡ range_rule id.0 (Err error) }
+{
+    match error {
+        RangeError::StartOutOfBounds(value) => Refusal::StartOutOfBounds { id: id.0, value },
+        RangeError::EndOutOfBounds(value) => Refusal::EndOutOfBounds { id: id.0, value },
+        RangeError::Reversed { start, end } => Refusal::Reversed {
+            id: id.0,
+            start,
+            end,
+        },
+    }
+}
+
 // 10 to 12.
 #[tactic(auto, unfolding(rules::specs::Rows::range_rule))]
 fn judge_range(id: SegmentId, start: u64, end: u64) -> Result<(), Refusal>
@@ -29,15 +47,20 @@ fn judge_range(id: SegmentId, start: u64, end: u64) -> Result<(), Refusal>
 {
     match KeyRange::new(start, end) {
         Ok(_) => Ok(()),
-        Err(RangeError::StartOutOfBounds(value)) => {
-            Err(Refusal::StartOutOfBounds { id: id.0, value })
-        }
-        Err(RangeError::EndOutOfBounds(value)) => Err(Refusal::EndOutOfBounds { id: id.0, value }),
-        Err(RangeError::Reversed { start, end }) => Err(Refusal::Reversed {
-            id: id.0,
-            start,
-            end,
-        }),
+        Err(error) => Err(range_refusal(id, error)),
+    }
+}
+
+// A word that names no state as a refusal, told likewise.
+#[tactic(auto, unfolding(rules::specs::Rows::state_rule))]
+fn state_refusal(id: SegmentId, unknown: UnknownState) -> Refusal
+    ensures number { refusal_number result ≡ state_number (Err unknown) }
+    ensures values { refusal_values result ≡ id.0 ∷ state_values (Err unknown) }
+    ensures told { Refused result ≡ state_rule id.0 (Err unknown) }
+{
+    Refusal::UnknownState {
+        id: id.0,
+        word: unknown.0,
     }
 }
 
@@ -48,7 +71,7 @@ fn judge_state(id: SegmentId, state: u64) -> Result<(), Refusal>
 {
     match SegmentState::from_word(state) {
         Ok(_) => Ok(()),
-        Err(UnknownState(word)) => Err(Refusal::UnknownState { id: id.0, word }),
+        Err(unknown) => Err(state_refusal(id, unknown)),
     }
 }
 

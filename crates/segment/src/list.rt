@@ -1,7 +1,8 @@
 // One edge list of a segment, its parents or its children.
 ghost use Rattle.std.specs.Prelude.{◌≡◌};
+ghost use Rattle.types.specs.declared.records.Side.TheVariants.{Parents, Children};
 ghost use Rattle.rules.specs.Rows.{duplicate, list_rule};
-ghost use Rattle.segment.specs.Faults.{fault_of, numbered};
+ghost use Rattle.segment.specs.Faults.{fault_of, numbered, in_words};
 
 use answers::{Refusal, RefusalWords};
 use types::records::{SegmentId, Side};
@@ -62,8 +63,11 @@ pub fn judge_list(id: SegmentId, side: Side, list: &[u64]) -> Result<(), Refusal
 }
 
 // The same in words, for a caller with a number of its own: 19 where an item is the segment itself, `number` where it came before.
+#[tactic(auto, using(crate::proofs::Items::numbered_told))]
 pub fn judge_numbered(id: SegmentId, number: u64, list: &[u64]) -> Result<(), RefusalWords>
-    ensures { result ≡ numbered number id.0 (fault_of id.0 list.now) }
+    ensures value { result ≡ numbered number id.0 (fault_of id.0 list.now) }
+    ensures parents { number ≡ 20 → result ≡ in_words (list_rule Parents id.0 list.now) }
+    ensures children { number ≡ 21 → result ≡ in_words (list_rule Children id.0 list.now) }
 {
     match find_fault(id, list) {
         Ok(()) => Ok(()),

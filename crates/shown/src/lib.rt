@@ -1,7 +1,7 @@
 // What the programs print in the same words: numbers, lists, refusals, and how many words of an area are changed.
 #![tactic(auto)]
 
-use answers::{Refusal, RefusalWords};
+use answers::RefusalWords;
 use std::io;
 
 // What the programs fill an area with: a word that no table of theirs has, so that what a call leaves alone can be seen.
@@ -52,8 +52,8 @@ pub fn area(rt: &impl Print, label: &[u8], list: &[u64]) -> io::Result<()> {
 }
 
 // The number, and as many values as the fixed table gives it.
-pub fn refusal(rt: &impl Print, r: Refusal) -> io::Result<()> {
-    let r = RefusalWords::from(r);
+pub fn refusal(rt: &impl Print, r: impl Into<RefusalWords>) -> io::Result<()> {
+    let r = r.into();
     let kind = answers::kinds::kind_of(r.number);
     word(rt, r.number)?;
     for v in [r.a, r.b, r.c, r.d].into_iter().take(kind.values as usize) {

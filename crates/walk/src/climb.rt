@@ -15,7 +15,7 @@ pub fn prepare(held: &Held, w: &mut [u64])
         × (marks_in held.now.count w.new ≡ replicate held.now.count 0) }
 {
     let n = held.count;
-    starts::fill_starts(held, w);
+    starts::fill_starts(held.rows, n, held.edges.len(), w);
     words::clear(&mut w[n..2 * n]);
 }
 

@@ -13,7 +13,7 @@ mod merge;
 mod noting;
 mod once;
 mod reached;
-mod starts;
+pub mod starts;
 
 // How many parent references were read, and how many ancestors there are.
 #[derive(Clone, Copy, PartialEq, Eq, Debug)]

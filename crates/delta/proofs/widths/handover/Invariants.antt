@@ -4,4 +4,4 @@ use Rattle.delta.proofs.Summed.{Summed}
 use Rattle.delta.proofs.widths.handover.Given as goal
 
 abbrev pub invariant-loop-i : goal.invariant-loop-i
-invariant-loop-i l = Summed (ids_held l.old) l.rows.rows.now l.rows.count l.i l.sum
+invariant-loop-i l = Summed (ids_held l.old) l.rows l.n l.i l.sum

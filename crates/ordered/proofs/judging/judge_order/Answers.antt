@@ -6,7 +6,7 @@ use Rattle.ordered.proofs.judging.judge_order.Goals as goal
 
 pub lay_ids-requires : goal.lay_ids-requires
 lay_ids-requires c =
-    record { room = omega (arith, c.requires.room, c.order_nodes.auto.scratch); nodes = taken-nodes c.args.held.now c.requires.closed c.args.limit c.order_nodes.new.scratch (omega (arith, c.requires.room, c.order_nodes.auto.scratch)) (told-whole c.order_nodes.result _ _ c.order_nodes.ensures c.in-Ok.is) }
+    record { rows_fit = omega (arith, c.args.held.now.tabled.size); room = omega (arith, c.requires.room, c.order_nodes.auto.scratch); nodes = taken-nodes c.args.held.now c.requires.closed c.args.limit c.order_nodes.new.scratch (omega (arith, c.requires.room, c.order_nodes.auto.scratch)) (told-whole c.order_nodes.result _ _ c.order_nodes.ensures c.in-Ok.is) }
 
 pub returns-in-Ok : goal.returns-in-Ok
 returns-in-Ok c =

@@ -6,4 +6,4 @@ use Rattle.words.specs.Part.{part, put}
 use Rattle.ordered.proofs.translate.lay_ids.Given as goal
 
 abbrev pub invariant-loop-k : goal.invariant-loop-k
-invariant-loop-k l = l.scratch ≡ put l.initial.scratch l.base l.k (map (id_in l.held.rows.now) (take l.k (part l.initial.scratch l.base l.held.count)))
+invariant-loop-k l = l.scratch ≡ put l.initial.scratch l.base l.k (map (id_in l.rows) (take l.k (part l.initial.scratch l.base l.n)))

@@ -8,4 +8,4 @@ use Rattle.walk.proofs.starts.fill_starts.Given as goal
 
 abbrev pub invariant-loop-i : goal.invariant-loop-i
 invariant-loop-i l =
-    (l.i ≤ l.held.count) × (length l.w ≡ length l.initial.w) × (l.at ≡ start_of held_width l.held.rows.now l.i) × StartsIn l.held.rows.now l.i l.w
+    (l.i ≤ l.n) × (length l.w ≡ length l.initial.w) × (l.at ≡ start_of held_width l.rows l.i) × StartsIn l.rows l.i l.w
