@@ -15,6 +15,7 @@ use types::records::{Broker, OrderingMode, SegmentInfo, Session, Update};
 mod answering;
 pub mod input;
 pub mod lent;
+pub mod sized;
 mod tables;
 
 // Where the listing stands between two bytes.

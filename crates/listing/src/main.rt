@@ -1,12 +1,12 @@
 // The listing program: standard input, a byte at a time, to answers on standard output.
 #![tactic(auto)]
 
-use lister::input::Input;
 use lister::lent::Buffers;
+use lister::sized::SizedInput;
 use std::io;
 
 fn main(rt: HostRuntime) -> io::Result<()> {
-    let mut input = Input::<_, 4096>::new(rt.stdin());
+    let mut input = SizedInput::<_, 4096>::new(rt.stdin());
     let mut buffers = Buffers::new();
     let mut listing = buffers.listing();
     // no input has as many bytes

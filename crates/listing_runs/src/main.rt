@@ -1,12 +1,12 @@
 // The listing on many inputs, one after another: a line that begins with `=` ends an input, is printed as it is, and begins the next.
 #![tactic(auto)]
 
-use lister::input::Input;
 use lister::lent::Buffers;
+use lister::sized::SizedInput;
 use std::io;
 
 fn main(rt: HostRuntime) -> io::Result<()> {
-    let mut input = Input::<_, 4096>::new(rt.stdin());
+    let mut input = SizedInput::<_, 4096>::new(rt.stdin());
     let mut buffers = Buffers::new();
     let mut listing = buffers.listing();
     let mut titled = false;

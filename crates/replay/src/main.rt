@@ -5,7 +5,7 @@
 
 use crate::areas::Difference;
 use crate::reader::Reader;
-use lister::input::Input;
+use lister::sized::SizedInput;
 use std::io;
 use types::records::Assigned;
 
@@ -112,7 +112,7 @@ fn main(rt: HostRuntime) -> io::Result<()> {
     let mut line = [0u64; 2048];
     let mut counts = [0u64; 73];
     let mut records = [assigned::NONE; assigned::RECORDS];
-    let mut input = Input::<_, 4096>::new(rt.stdin());
+    let mut input = SizedInput::<_, 4096>::new(rt.stdin());
     let mut r = reader::start();
     // no input has as many bytes
     for _ in 0..u64::MAX {
